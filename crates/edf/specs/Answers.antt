@@ -1,0 +1,75 @@
+-- What the simulator answers, and what the finishes and the totals hold afterwards.
+--
+--   run s ds asks            == the run of a set with deadlines ds and these asks: finishes, end, busy and idle ticks
+--   answer s ds asks n t     == the answer, for a list of n finishes and a record of totals t
+--   values a                 == document 01's number and values of an answer: 0 and the end, or the reason's
+--   totals s ds asks n t     == what the record of totals holds afterwards
+--   finishes s ds asks fs t  == what the list of finishes holds afterwards, if it held fs before
+use Prim.Native.Nat.{ℕ, _+_}
+use mathlib.Core.Bool.{Bool, cond, _&&_, _||_}
+use mathlib.Core.List.{List, [], _∷_, map}
+use lib.Dec.{ltb, eqb}
+use lib.IntN.{ℤ, pos}
+use lib.ListN.{length, getD}
+use Rattle.lists.specs.Places.{places}
+use Rattle.subjobs.specs.declared.Reason.the-variants as reason
+use Rattle.subjobs.specs.Reasons as reasons
+use Rattle.subjobs.specs.Sets.{Subjobs, size, job, subtask, release, execution}
+use Rattle.subjobs.specs.Judging.{judgement, ifPassed}
+use Rattle.edf.specs.declared.Totals.{Totals}
+use Rattle.edf.specs.declared.Answer.{Answer}
+use Rattle.edf.specs.declared.Answer.the-variants.{Ran, Refused}
+use Rattle.edf.specs.Runs.{sooner, owed, finish, end, busyTicks, idleTicks}
+
+pub record Run : Type 0 where
+  pub finishes : List ℕ
+  pub end : ℕ
+  pub busy : ℕ
+  pub idle : ℕ
+
+-- the run of a core with the places 0 to n - 1
+unfoldable pub runOf : (r o : ℕ → ℕ) → (ℕ → ℕ → Bool) → ℕ → Run
+runOf r o lt n =
+    record {
+      finishes = map (finish r o lt (places n)) (places n);
+      end = end r o lt (places n);
+      busy = busyTicks r o lt (places n);
+      idle = idleTicks r o lt (places n);
+    }
+
+abbrev pub run : Subjobs → List ℕ → List ℕ → Run
+run s ds asks =
+    runOf (release s) (owed (execution s) (λ i. getD asks i 0)) (sooner (λ i. getD ds i 0) (job s) (subtask s)) (size s)
+
+-- Each run adds its own ticks to the record of totals.
+abbrev pub added : Run → Totals → Totals
+added r t = record { busy = t .busy + r .busy; idle = t .idle + r .idle }
+
+-- Number 8: after the run, busy or idle total would stand above 1,000,000,000,000,000,000.
+abbrev pub above : Totals → Bool
+above t = ltb 1_000_000_000_000_000_000 (t .busy) || ltb 1_000_000_000_000_000_000 (t .idle)
+
+-- the lists beside the six are as long as the first
+abbrev pub furtherLists : Subjobs → List ℕ → List ℕ → ℕ → Bool
+furtherLists s ds asks n = eqb (length ds) (size s) && eqb (length asks) (size s) && eqb n (size s)
+
+unfoldable pub answer : Subjobs → List ℕ → List ℕ → ℕ → Totals → Answer
+answer s ds asks n t =
+    ifPassed (judgement s (furtherLists s ds asks n))
+    (cond (above (added (run s ds asks) t)) (Refused reason.Totals) (Ran (record { end = run s ds asks .end })))
+    Refused
+
+-- After a refusal the result list and the totals hold what they held before.
+abbrev pub ifRan : {A : Type 0} → Answer → A → A → A
+ifRan (Ran r) new old = new
+ifRan (Refused r) new old = old
+
+unfoldable pub totals : Subjobs → List ℕ → List ℕ → ℕ → Totals → Totals
+totals s ds asks n t = ifRan (answer s ds asks n t) (added (run s ds asks) t) t
+
+unfoldable pub finishes : Subjobs → List ℕ → List ℕ → List ℕ → Totals → List ℕ
+finishes s ds asks fs t = ifRan (answer s ds asks (length fs) t) (run s ds asks .finishes) fs
+
+abbrev pub values : Answer → List ℤ
+values (Ran r) = pos 0 ∷ pos (r .end) ∷ []
+values (Refused r) = reasons.values r

@@ -1,0 +1,5 @@
+pub mod Cases
+pub mod Count
+pub mod Members
+pub mod Sums
+pub mod Choice

@@ -1,0 +1,112 @@
+-- Who is in a group: membership in a filter, in the places of a set, and what holds of every member.
+use Prim.Native.Nat.{ℕ, zero, suc, _+_, _≤_, _<_}
+use mathlib.Core.Bool.{Bool, true, false, not}
+use mathlib.Core.List.{List, [], _∷_, List·Memᴰ, List·Memᴰ·head, List·Memᴰ·tail, List·Memᴰ·cases-cons, List·Memᴰ·not-nil, Memᴰ·cast}
+use mathlib.Core.Logic.{_≢_, _⊎_, inl, inr}
+use mathlib.Core.Path.{_≡_, refl, sym}
+use native.Mathlib.Omega.{arith}
+use borrow.Author.Tests.{ne-eqb, not-true}
+use lib.Dec.{eqb}
+use Rattle.lists.specs.Places.{from, filter, without, Every, InOrder, Nodup}
+use Rattle.lists.proofs.Cases.{split, test, clash, tests}
+
+-- A member of x ∷ xs is x or a member of xs.
+pub in-cons : {i x : ℕ} {xs : List ℕ} {X : Type 0} → List·Memᴰ i (x ∷ xs) → (i ≡ x → X) → (List·Memᴰ i xs → X) → X
+in-cons m f g = split (List·Memᴰ·cases-cons m) f g
+
+pub in-nil : {X : Type 0} {i : ℕ} → List·Memᴰ i [] → X
+in-nil m = absurd (List·Memᴰ·not-nil m)
+
+-- A non-empty list has a member.
+pub filled : (xs : List ℕ) → xs ≢ [] → (i : ℕ) × List·Memᴰ i xs
+filled [] h = absurd (h refl)
+filled (x ∷ xs) h = (x, List·Memᴰ·head refl)
+
+pub in-filled : {i : ℕ} {xs : List ℕ} → List·Memᴰ i xs → xs ≢ []
+in-filled {i} m e = List·Memᴰ·not-nil (rw e at m)
+
+-- What a filter does at the head of a list.
+pub filter-cases :
+    (U : ℕ → Bool) (x : ℕ) (xs : List ℕ)
+    → ((U x ≡ true) × (filter U (x ∷ xs) ≡ x ∷ filter U xs)) ⊎ ((U x ≡ false) × (filter U (x ∷ xs) ≡ filter U xs))
+unfolding filter
+filter-cases U x xs = test (U x) (λ e. inl (e, rw e)) (λ e. inr (e, rw e))
+
+pub filter-nil : (U : ℕ → Bool) → filter U [] ≡ []
+unfolding filter
+filter-nil U = refl
+
+-- The members of a subset are the members it picks.
+pub filter-in : (U : ℕ → Bool) (xs : List ℕ) {i : ℕ} → List·Memᴰ i (filter U xs) → List·Memᴰ i xs × (U i ≡ true)
+filter-in U [] m = in-nil (rw (filter-nil U) at m)
+filter-in U (x ∷ xs) {i} m =
+    split (filter-cases U x xs)
+    (λ q.
+    in-cons (rw (q .1) at m)
+    (λ e. (List·Memᴰ·head e, rw e (q .0)))
+    (λ t. let h = filter-in U xs t in (List·Memᴰ·tail (h .0), h .1)))
+    (λ q. let h = filter-in U xs (rw (q .1) at m) in (List·Memᴰ·tail (h .0), h .1))
+
+pub in-filter : (U : ℕ → Bool) (xs : List ℕ) {i : ℕ} → List·Memᴰ i xs → U i ≡ true → List·Memᴰ i (filter U xs)
+in-filter U [] m u = in-nil m
+in-filter U (x ∷ xs) {i} m u =
+    split (filter-cases U x xs)
+    (λ q. rw (q .1) (in-cons m (λ e. List·Memᴰ·head e) (λ t. List·Memᴰ·tail (in-filter U xs t u))))
+    (λ q. rw (q .1) (in-cons m (λ e. clash u (rw e (q .0))) (λ t. in-filter U xs t u)))
+
+pub without-in : (b : ℕ) (xs : List ℕ) {i : ℕ} → List·Memᴰ i (without b xs) → List·Memᴰ i xs × (i ≢ b)
+without-in b xs {i} m =
+    let h = filter-in (λ j. not (eqb j b)) xs m in
+    let n = not-true (eqb i b) (h .1) in
+    (h .0, λ e. clash (eqb-yes e) n)
+  where
+    eqb-yes : i ≡ b → eqb i b ≡ true
+    eqb-yes e = test (eqb i b) (λ y. y) (λ n. absurd (omega tests))
+
+pub in-without : (b : ℕ) (xs : List ℕ) {i : ℕ} → List·Memᴰ i xs → i ≢ b → List·Memᴰ i (without b xs)
+in-without b xs {i} m n = in-filter (λ j. not (eqb j b)) xs m (rw (ne-eqb i b n))
+
+-- What holds of every member, and back.
+pub every-in : (P : ℕ → Type 0) (xs : List ℕ) → Every P xs → {i : ℕ} → List·Memᴰ i xs → P i
+every-in P [] h m = in-nil m
+every-in P (x ∷ xs) h m = in-cons m (λ e. rw e (h .0)) (λ t. every-in P xs (h .1) t)
+
+pub in-every : (P : ℕ → Type 0) (xs : List ℕ) → ((i : ℕ) → List·Memᴰ i xs → P i) → Every P xs
+in-every P [] f = tt
+in-every P (x ∷ xs) f = (f x (List·Memᴰ·head refl), in-every P xs (λ i m. f i (List·Memᴰ·tail m)))
+
+-- The places of a set are those below its size, each once.
+pub from-in : (a n : ℕ) {i : ℕ} → List·Memᴰ i (from a n) → (a ≤ i) × (i < a + n)
+unfolding from
+from-in a zero m = in-nil m
+from-in a (suc n) m = in-cons m (λ e. (omega arith, omega arith)) (λ t. let h = from-in (suc a) n t in (omega arith, omega arith))
+
+pub in-from : (a n : ℕ) {i : ℕ} → a ≤ i → i < a + n → List·Memᴰ i (from a n)
+unfolding from
+in-from a zero lo hi = absurd (omega arith)
+in-from a (suc n) {i} lo hi =
+    test (eqb i a) (λ e. List·Memᴰ·head (omega tests)) (λ e. List·Memᴰ·tail (in-from (suc a) n (omega tests) (omega arith)))
+
+pub nodup-from : (a n : ℕ) → Nodup (from a n)
+unfolding from
+nodup-from a zero = tt
+nodup-from a (suc n) = (λ m. let h = from-in (suc a) n m in omega arith, nodup-from (suc a) n)
+
+-- A subset keeps order and has nobody twice.
+pub nodup-filter : (U : ℕ → Bool) (xs : List ℕ) → Nodup xs → Nodup (filter U xs)
+nodup-filter U [] d = rw (filter-nil U) tt
+nodup-filter U (x ∷ xs) d =
+    split (filter-cases U x xs)
+    (λ q. rw (q .1) (λ m. d .0 (filter-in U xs m .0), nodup-filter U xs (d .1)))
+    (λ q. rw (q .1) (nodup-filter U xs (d .1)))
+
+pub inorder-filter : (f : ℕ → ℕ) (U : ℕ → Bool) (xs : List ℕ) → InOrder f xs → InOrder f (filter U xs)
+inorder-filter f U [] s = rw (filter-nil U) tt
+inorder-filter f U (x ∷ xs) s =
+    split (filter-cases U x xs)
+    (λ q.
+    rw (q .1) (
+      in-every (λ y. f x ≤ f y) (filter U xs) (λ i m. every-in (λ y. f x ≤ f y) xs (s .0) (filter-in U xs m .0)),
+      inorder-filter f U xs (s .1),
+    ))
+    (λ q. rw (q .1) (inorder-filter f U xs (s .1)))

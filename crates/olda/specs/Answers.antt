@@ -1,0 +1,47 @@
+-- What the assignment answers and what the result list holds afterwards.
+--
+--   answer s n     == the answer for the set s and a result list of n places
+--   values a       == document 01's number and values of an answer: 0 and the report, or the reason's
+--   results s out  == what the result list holds afterwards, if it held out before
+use Prim.Native.Nat.{ℕ, _+_}
+use mathlib.Core.List.{List, [], _∷_}
+use lib.Dec.{eqb}
+use lib.IntN.{ℤ, pos}
+use lib.ListN.{length, getD}
+use Rattle.lists.specs.Places.{places}
+use Rattle.lists.specs.Order.{choose, given}
+use Rattle.subjobs.specs.declared.Reason.the-variants.{Late}
+use Rattle.subjobs.specs.Reasons as reasons
+use Rattle.subjobs.specs.Sets.{Subjobs, size, deadline, critical, bound, slack, byBound}
+use Rattle.subjobs.specs.Judging.{judgement, ifPassed}
+use Rattle.olda.specs.declared.Answer.{Answer}
+use Rattle.olda.specs.declared.Answer.the-variants.{Placed, Nothing, Refused}
+use Rattle.olda.specs.Method.{Outcome, placed, stuck, method}
+
+-- An accepted set reports its least slack and the smallest place that has it. An empty set is accepted with a report
+-- of its own, "nothing to place", which carries no slack.
+unfoldable pub report : Subjobs → (ℕ → ℕ) → Answer
+report s d =
+    given (choose (byBound (deadline s) (λ i. critical s i + d i)) (places (size s))) Nothing
+    (λ p. Placed (record { slack = slack (deadline s) (critical s) d p; place = p }))
+
+-- Number 5: the base sub-job's place, with the completion and its upper bound.
+abbrev pub outcome : Subjobs → Outcome → Answer
+outcome s (placed ds) = report s (λ i. getD ds i 0)
+outcome s (stuck p m) = Refused (Late p m (bound (deadline s) (critical s) p))
+
+unfoldable pub answer : Subjobs → ℕ → Answer
+answer s n = ifPassed (judgement s (eqb n (size s))) (outcome s (method s)) Refused
+
+-- After a refusal the result list holds what it held before. After acceptance the whole result list is written.
+abbrev pub written : Outcome → List ℕ → List ℕ
+written (placed ds) out = ds
+written (stuck p m) out = out
+
+unfoldable pub results : Subjobs → List ℕ → List ℕ
+results s out = ifPassed (judgement s (eqb (length out) (size s))) (written (method s) out) (λ r. out)
+
+abbrev pub values : Answer → List ℤ
+values (Placed r) = pos 0 ∷ r .slack ∷ pos (r .place) ∷ []
+values Nothing = pos 0 ∷ []
+values (Refused r) = reasons.values r

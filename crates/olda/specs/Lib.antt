@@ -1,0 +1,3 @@
+pub mod Method
+pub mod Rules
+pub mod Answers

@@ -1,0 +1,103 @@
+-- The table P1 to P12 of document 01, one statement over the rules themselves.
+--
+--   assigned s v ds     == the assignment answers with the numbers v, and the result list then holds ds
+--   based s xs m        == the first base subset of s is xs, its completion m
+--   ran s ds as fs e b i == the core finishes at fs and ends at e after b busy and i idle ticks
+--   checked s ds v      == the checker answers with the numbers v
+--   Holds rows          == every row holds
+use Prim.Native.Nat.{ℕ}
+use mathlib.Core.List.{List, [], _∷_, map}
+use mathlib.Core.Path.{_≡_}
+use lib.IntN.{ℤ, pos, negℤ}
+use lib.ListN.{length, replicate}
+use Rattle.lists.specs.Places.{from}
+use Rattle.subjobs.specs.Sets.{Subjobs, subjobs, size, release, execution}
+use Rattle.olda.specs.Method.{inOrder, best, base}
+use Rattle.olda.specs.Answers as olda
+use Rattle.edf.specs.Answers as edf
+use Rattle.checker.specs.Answers as checker
+
+-- (r, C, UB) stands for a sub-job with critical time 0; jobs count 1, 2, ..
+pub data Subjob : Type 0 where
+  sub : ℕ → ℕ → ℕ → Subjob
+
+abbrev pub releaseOf : Subjob → ℕ
+releaseOf (sub r c u) = r
+
+abbrev pub executionOf : Subjob → ℕ
+executionOf (sub r c u) = c
+
+abbrev pub boundOf : Subjob → ℕ
+boundOf (sub r c u) = u
+
+abbrev pub setOf : List Subjob → Subjobs
+setOf js =
+    subjobs (from 1 (length js)) (replicate (length js) 1) (map releaseOf js) (map executionOf js) (map boundOf js)
+    (replicate (length js) 0)
+
+pub data Row : Type 0 where
+  assigned : Subjobs → List ℤ → List ℕ → Row
+  based : Subjobs → List ℕ → ℕ → Row
+  ran : Subjobs → List ℕ → List ℕ → List ℕ → ℕ → ℕ → ℕ → Row
+  checked : Subjobs → List ℕ → List ℤ → Row
+
+-- The result list holds zeros before the call.
+abbrev pub HoldsAt : Row → Type 0
+HoldsAt (assigned s v ds) =
+    (olda.values (olda.answer s (size s)) ≡ v) × (olda.results s (replicate (size s) 0) ≡ ds)
+HoldsAt (based s xs m) =
+    (base (release s) (execution s) (inOrder (release s) (size s)) ≡ xs)
+    × (best (release s) (execution s) (inOrder (release s) (size s)) ≡ m)
+HoldsAt (ran s ds asks fs e b i) = edf.run s ds asks ≡ record { finishes = fs; end = e; busy = b; idle = i }
+HoldsAt (checked s ds v) = checker.values (checker.answer s ds) ≡ v
+
+abbrev pub Holds : List Row → Type 0
+Holds [] = Unit {0}
+Holds (x ∷ xs) = HoldsAt x × Holds xs
+
+-- 0, least slack, its place
+abbrev pub accepted : ℕ → ℕ → List ℤ
+accepted slack place = pos 0 ∷ pos slack ∷ pos place ∷ []
+
+-- number, place, field (none), completion, bound
+abbrev pub refused : ℕ → ℕ → ℕ → ℤ → List ℤ
+refused number place completion bound = pos number ∷ pos place ∷ pos 0 ∷ pos completion ∷ bound ∷ []
+
+abbrev pub p4 : Subjobs
+p4 = setOf (sub 0 2 35 ∷ sub 4 2 42 ∷ sub 5 2 39 ∷ sub 6 1 35 ∷ [])
+
+abbrev pub p5 : Subjobs
+p5 = setOf (sub 0 4 20 ∷ sub 4 3 10 ∷ [])
+
+abbrev pub p8 : Subjobs
+p8 = setOf (sub 0 3 3 ∷ sub 1 1 2 ∷ [])
+
+abbrev pub table : List Row
+table =
+    -- P1 empty set: nothing to place
+    assigned (setOf []) (pos 0 ∷ []) []
+    -- P2
+    ∷ assigned (setOf (sub 0 1 1 ∷ [])) (accepted 0 0) (1 ∷ [])
+    -- P3
+    ∷ assigned (setOf (sub 0 2 1 ∷ [])) (refused 5 0 2 (pos 1)) (0 ∷ [])
+    -- P4
+    ∷ assigned p4 (accepted 28 3) (2 ∷ 9 ∷ 8 ∷ 7 ∷ [])
+    ∷ based p4 (1 ∷ 2 ∷ 3 ∷ []) 9
+    -- P5
+    ∷ assigned p5 (accepted 3 1) (4 ∷ 7 ∷ [])
+    -- P6, of jobs 5 and 2
+    ∷ assigned (subjobs (5 ∷ 2 ∷ []) (1 ∷ 1 ∷ []) (0 ∷ 0 ∷ []) (2 ∷ 3 ∷ []) (9 ∷ 9 ∷ []) (0 ∷ 0 ∷ [])) (accepted 4 1) (2 ∷ 5 ∷ [])
+    -- P7, with deadline 3 and critical time 5
+    ∷ assigned (subjobs (1 ∷ []) (1 ∷ []) (0 ∷ []) (1 ∷ []) (3 ∷ []) (5 ∷ [])) (refused 5 0 1 (negℤ (pos 2))) (0 ∷ [])
+    -- P8
+    ∷ assigned p8 (refused 5 0 4 (pos 3)) (0 ∷ 0 ∷ [])
+    -- P9
+    ∷ assigned (setOf (sub 1_000_000_000 1_000_000 2_000_000_000 ∷ [])) (accepted 999_000_000 0) (1_001_000_000 ∷ [])
+    -- P10
+    ∷ ran p4 (2 ∷ 9 ∷ 8 ∷ 7 ∷ []) (2 ∷ 1 ∷ 0 ∷ 5 ∷ []) (2 ∷ 5 ∷ 5 ∷ 7 ∷ []) 7 4 3
+    -- P11
+    ∷ checked p5 (7 ∷ 7 ∷ []) (pos 0 ∷ [])
+    ∷ checked p5 (3 ∷ 7 ∷ []) (refused 6 0 0 (pos 0))
+    -- P12
+    ∷ checked p8 (3 ∷ 2 ∷ []) (refused 7 0 0 (pos 0))
+    ∷ []

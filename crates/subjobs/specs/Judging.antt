@@ -1,0 +1,73 @@
+-- Refusals 1 to 4: what is asked of every set before any entry does its work.
+--
+--   orElse a b          == a's refusal, and b's judgement if a passes
+--   firstRefusal J n    == the refusal of the smallest place below n that J refuses
+--   ifPassed j a f      == a if j passes, f of the reason if it refuses
+--   judgement s others  == refusals 1 to 4 in the order of the numbers
+use Prim.Native.Nat.{ℕ, zero, suc}
+use mathlib.Core.Bool.{Bool, cond, _&&_, _||_}
+use lib.Dec.{ltb, eqb}
+use lib.ListN.{length}
+use Rattle.lists.specs.Search.{some}
+use Rattle.subjobs.specs.declared.Field.the-variants.{Release, Execution, Deadline, Critical}
+use Rattle.subjobs.specs.declared.Reason.{Reason}
+use Rattle.subjobs.specs.declared.Reason.the-variants.{Lengths, TooMany, Range, Pair}
+use Rattle.subjobs.specs.declared.Judgement.{Judgement}
+use Rattle.subjobs.specs.declared.Judgement.the-variants.{Passed, Refused}
+use Rattle.subjobs.specs.Sets.{Subjobs, size, job, subtask, release, execution, deadline, critical}
+
+abbrev pub orElse : Judgement → Judgement → Judgement
+orElse Passed j = j
+orElse (Refused r) j = Refused r
+
+abbrev pub ifPassed : {A : Type 0} → Judgement → A → (Reason → A) → A
+ifPassed Passed a f = a
+ifPassed (Refused r) a f = f r
+
+-- among the n places from i on
+unfoldable pub refusalFrom : (ℕ → Judgement) → ℕ → ℕ → Judgement
+refusalFrom J zero i = Passed
+refusalFrom J (suc n) i = orElse (J i) (refusalFrom J n (suc i))
+
+abbrev pub firstRefusal : (ℕ → Judgement) → ℕ → Judgement
+firstRefusal J n = refusalFrom J n 0
+
+-- 1: the lists, results included, are not all of one length. `others` says it of the call's further lists.
+abbrev pub oneLength : Subjobs → Bool → Bool
+oneLength s others =
+    eqb (length (s .subtasks)) (size s)
+    && eqb (length (s .releases)) (size s)
+    && eqb (length (s .executions)) (size s)
+    && eqb (length (s .deadlines)) (size s)
+    && eqb (length (s .criticals)) (size s)
+    && others
+
+-- 3: a field out of range; the first such field in the order release, execution, deadline, critical time
+abbrev pub rangeAt : (place release execution deadline critical : ℕ) → Judgement
+rangeAt p r c dl z =
+    cond (ltb 1_000_000_000 r) (Refused (Range p Release))
+    (cond (ltb c 1 || ltb 1_000_000 c) (Refused (Range p Execution))
+    (cond (ltb 2_000_000_000 dl) (Refused (Range p Deadline))
+    (cond (ltb 1_000_000_000 z) (Refused (Range p Critical))
+    Passed)))
+
+abbrev pub ranges : (r c dl z : ℕ → ℕ) → ℕ → Judgement
+ranges r c dl z n = firstRefusal (λ i. rangeAt i (r i) (c i) (dl i) (z i)) n
+
+-- 4: a pair (job, subtask) seen earlier in the list
+abbrev pub seenEarlier : (job subtask : ℕ → ℕ) → ℕ → Bool
+seenEarlier job subtask i = some (λ j. eqb (job j) (job i) && eqb (subtask j) (subtask i)) i
+
+abbrev pub pairAt : (job subtask : ℕ → ℕ) → ℕ → Judgement
+pairAt job subtask p = cond (seenEarlier job subtask p) (Refused (Pair p)) Passed
+
+abbrev pub pairs : (job subtask : ℕ → ℕ) → ℕ → Judgement
+pairs job subtask n = firstRefusal (pairAt job subtask) n
+
+-- Checks run in the order of the numbers.
+unfoldable pub judgement : Subjobs → Bool → Judgement
+judgement s others =
+    cond (oneLength s others)
+    (cond (ltb 128 (size s)) (Refused TooMany)
+    (orElse (ranges (release s) (execution s) (deadline s) (critical s) (size s)) (pairs (job s) (subtask s) (size s))))
+    (Refused Lengths)

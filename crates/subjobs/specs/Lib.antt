@@ -1,0 +1,4 @@
+pub mod Sets
+pub mod Reasons
+pub mod Judging
+pub mod Conditions

@@ -1,0 +1,61 @@
+-- A set of sub-jobs is six lists of numbers, one place per sub-job. The rules speak of a sub-job
+-- through functions of its place, and take those functions and not the set: who has other releases
+-- or takes something else off the deadline hands in other functions.
+--
+--   size s            == how many sub-jobs the set has
+--   job s i, subtask s i, release s i, execution s i, deadline s i, critical s i == the six fields at place i
+--   bound dl z i      == the upper bound of place i, signed: its deadline less what is taken off it
+--   slack dl z d i    == its upper bound minus its local deadline
+--   byBound dl z i j  == the upper bound of i is below that of j
+use Prim.Native.Nat.{ℕ, _+_}
+use mathlib.Core.Bool.{Bool}
+use mathlib.Core.List.{List}
+use lib.Dec.{ltb}
+use lib.IntN.{ℤ, pos, subℕ, _-ℤ_}
+use lib.ListN.{length, getD}
+
+-- A sub-job has six unsigned 32-bit numbers, held in six lent lists, one place per sub-job.
+pub record Subjobs : Type 0 where
+  pub jobs : List ℕ
+  pub subtasks : List ℕ
+  pub releases : List ℕ
+  pub executions : List ℕ
+  pub deadlines : List ℕ
+  pub criticals : List ℕ
+
+abbrev pub subjobs : List ℕ → List ℕ → List ℕ → List ℕ → List ℕ → List ℕ → Subjobs
+subjobs js ks rs cs ds zs =
+    record { jobs = js; subtasks = ks; releases = rs; executions = cs; deadlines = ds; criticals = zs }
+
+abbrev pub size : Subjobs → ℕ
+size s = length (s .jobs)
+
+abbrev pub job : Subjobs → ℕ → ℕ
+job s i = getD (s .jobs) i 0
+
+abbrev pub subtask : Subjobs → ℕ → ℕ
+subtask s i = getD (s .subtasks) i 0
+
+abbrev pub release : Subjobs → ℕ → ℕ
+release s i = getD (s .releases) i 0
+
+abbrev pub execution : Subjobs → ℕ → ℕ
+execution s i = getD (s .executions) i 0
+
+abbrev pub deadline : Subjobs → ℕ → ℕ
+deadline s i = getD (s .deadlines) i 0
+
+abbrev pub critical : Subjobs → ℕ → ℕ
+critical s i = getD (s .criticals) i 0
+
+-- The upper bound is deadline minus critical time. It is signed and is not cut off at zero.
+abbrev pub bound : (ℕ → ℕ) → (ℕ → ℕ) → ℕ → ℤ
+bound dl z i = subℕ (dl i) (z i)
+
+-- The slack is upper bound minus local deadline.
+abbrev pub slack : (ℕ → ℕ) → (ℕ → ℕ) → (ℕ → ℕ) → ℕ → ℤ
+slack dl z d i = bound dl z i -ℤ pos (d i)
+
+-- Upper bounds are compared by cross sums, which no sign disturbs: dl i - z i < dl j - z j.
+abbrev pub byBound : (ℕ → ℕ) → (ℕ → ℕ) → ℕ → ℕ → Bool
+byBound dl z i j = ltb (dl i + z j) (dl j + z i)
