@@ -3,9 +3,9 @@
 --
 --   served t i == the ticks served to i by moment t
 --   turn t     == who is served in tick t
-use Prim.Native.Nat.{ℕ, zero, suc, _+_, _-_, _≤_, _<_}
-use mathlib.Core.Bool.{Bool, true, false, _&&_}
-use mathlib.Core.List.{List, [], _∷_, List·Memᴰ}
+use Prim.Native.Nat.{ℕ, zero, suc, _+_, _≤_, _<_}
+use mathlib.Core.Bool.{Bool, false}
+use mathlib.Core.List.{List, List·Memᴰ}
 use mathlib.Core.Logic.{_≢_, _⊎_, inl, inr}
 use mathlib.Core.Option.{Option, none, some}
 use mathlib.Core.Path.{_≡_, refl, sym, ap, _∙_}
@@ -13,14 +13,14 @@ use native.Mathlib.Nat.{add-zero, add-suc}
 use native.Mathlib.Omega.{arith}
 use borrow.Author.Tests.{le-leb, lt-ltb}
 use lib.Dec.{ltb, leb, eqb}
-use lib.ListN.{length, getD, set, replicate, length-set, length-replicate, getD-replicate}
+use lib.ListN.{length, getD, replicate, length-set}
 use lib.Seq.{getD-set-same, getD-set-other}
 use Rattle.lists.specs.Places.{filter, weight, Nodup}
-use Rattle.lists.proofs.Cases.{split, test, clash, tests, both}
+use Rattle.lists.proofs.Cases.{split, test, tests, both}
 use Rattle.lists.proofs.Members.{in-filter, filter-in, in-nil}
 use Rattle.lists.proofs.Sums.{weight-cong, weight-one-more}
 use Rattle.lists.proofs.Choice.{Order, choose-cases, chosen-in, chosen-none, chosen-first}
-use Rattle.edf.specs.Core.{Core, start, step, active, pick, tick, after}
+use Rattle.edf.specs.Core.{Core, start, step, active, pick, after}
 
 zeros-at : (n i : ℕ) → getD {A = ℕ} (replicate n 0) i 0 ≡ 0
 zeros-at zero i = refl

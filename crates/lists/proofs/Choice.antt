@@ -1,14 +1,17 @@
 -- The laws of an order and of the choice by one. After these `choose` stays shut.
-use Prim.Native.Nat.{ℕ, _≤_, _<_}
-use mathlib.Core.Bool.{Bool, true, false, cond, not, _&&_, _||_}
+use Prim.Native.Nat.{ℕ, _<_, zero, suc}
+use mathlib.Core.Bool.{Bool, true, false, cond}
 use mathlib.Core.List.{List, [], _∷_, List·Memᴰ, List·Memᴰ·head, List·Memᴰ·tail, Memᴰ·cast}
 use mathlib.Core.Logic.{_≢_, _⊎_, inl, inr}
-use mathlib.Core.Option.{Option, none, some}
-use mathlib.Core.Path.{_≡_, refl, sym, _∙_}
+use mathlib.Core.Option.{none, some}
+use mathlib.Core.Path.{_≡_, refl, sym, _∙_, ap}
 use native.Mathlib.Omega.{arith}
 use Rattle.lists.specs.Order.{by, lex, reversed, ahead, choose, Last}
-use Rattle.lists.proofs.Cases.{split, test, clash, tests, tested, both}
-use Rattle.lists.proofs.Members.{in-cons, in-nil}
+use Rattle.lists.proofs.Cases.{split, test, clash, tests, tested}
+use Rattle.lists.proofs.Members.{in-cons, in-nil, in-from}
+use lib.Dec.{ltb}
+use Rattle.lists.specs.Places.{from, places}
+use borrow.Author.Tests.{le-ltb, ltb-true}
 
 -- A strict order in which two that no third parts count as alike.
 pub record Order (lt : ℕ → ℕ → Bool) : Type 0 where
@@ -187,3 +190,59 @@ lex-total lt lt′ o i j p q =
     let a = lex-no lt lt′ i j p in
     let b = lex-no lt lt′ j i q in
     split (a .1) (λ f. clash f (b .0)) (λ f. split (b .1) (λ g. clash g (a .0)) (λ g. (a .0, b .0, f, g)))
+
+-- Only one is last.
+pub last-one : (lt : ℕ → ℕ → Bool) → Order lt → (xs : List ℕ) (b b′ : ℕ) → Last lt xs b → Last lt xs b′ → b ≡ b′
+last-one lt o xs b b′ l l′ =
+    split (l′ .1 b (l .0)) (λ e. e)
+    (λ h. split (l .1 b′ (l′ .0)) (λ e. sym e) (λ g. clash g (asym lt o b b′ h)))
+
+-- In a total order the choice by the reversed order is the last of all.
+pub last-chosen :
+    (lt : ℕ → ℕ → Bool) → Order lt → (xs : List ℕ) → Total lt xs → xs ≢ [] → (b : ℕ) × (Last lt xs b × (choose (reversed lt) xs ≡ some b))
+last-chosen lt o xs tot n =
+    split (choose-cases (reversed lt) xs)
+    (λ w. absurd (n (w .0)))
+    (λ w. (
+      w .0,
+      ((w .1, chosen-before (reversed lt) (reversed-order lt o) xs (λ i j a b p q. tot i j a b q p) (w .2)), w .2),
+    ))
+
+-- Among places in list order the choice keeps the first of those that tie: it is the choice by the order and then by place.
+ahead-nil : (lt : ℕ → ℕ → Bool) (p : ℕ) → ahead lt p [] ≡ p
+unfolding ahead
+ahead-nil lt p = refl
+
+ahead-cons : (lt : ℕ → ℕ → Bool) (p x : ℕ) (xs : List ℕ) → ahead lt p (x ∷ xs) ≡ ahead lt (cond (lt x p) x p) xs
+unfolding ahead
+ahead-cons lt p x xs = refl
+
+lex-later : (lt : ℕ → ℕ → Bool) (p a : ℕ) → p < a → lex lt (by (λ i. i)) a p ≡ lt a p
+lex-later lt p a h =
+    let q : ltb a p ≡ false = le-ltb a p (omega arith) in
+    test (lt a p) (λ e. rw e) (λ e. test (lt p a) (λ y. rw (e, y)) (λ y. rw (e, y, q)))
+
+ahead-place : (lt : ℕ → ℕ → Bool) (p a n : ℕ) → p < a → ahead lt p (from a n) ≡ ahead (lex lt (by (λ i. i))) p (from a n)
+unfolding from
+ahead-place lt p a zero h = ahead-nil lt p ∙ sym (ahead-nil (lex lt (by (λ i. i))) p)
+ahead-place lt p a (suc n) h =
+    ahead-cons lt p a (from (suc a) n)
+    ∙ test (lt a p)
+    (λ e. rw e (ahead-place lt a (suc a) n (omega arith)))
+    (λ e. rw e (ahead-place lt p (suc a) n (omega arith)))
+    ∙ ap (λ (b : Bool). ahead (lex lt (by (λ i. i))) (cond b a p) (from (suc a) n)) (sym (lex-later lt p a h))
+    ∙ sym (ahead-cons (lex lt (by (λ i. i))) p a (from (suc a) n))
+
+choose-place : (lt : ℕ → ℕ → Bool) (n : ℕ) → choose lt (places n) ≡ choose (lex lt (by (λ i. i))) (places n)
+unfolding choose from
+choose-place lt zero = refl
+choose-place lt (suc n) = ap some (ahead-place lt 0 1 n (omega arith))
+
+pub chosen-earliest : (lt : ℕ → ℕ → Bool) → Order lt → (n b i : ℕ) → choose lt (places n) ≡ some b → i < n → i < b → lt b i ≡ true
+chosen-earliest lt o n b i e k h =
+    split
+    (chosen-before (lex lt (by (λ j. j))) (lex-order lt (by (λ j. j)) o (by-order (λ j. j))) (places n)
+    (λ u v p q a b. let w = lex-total lt (by (λ j. j)) o u v a b in let f = w .2 in let g = w .3 in omega tests)
+    (sym (choose-place lt n) ∙ e) i (in-from 0 n (omega arith) (omega arith)))
+    (λ q. absurd (omega arith))
+    (λ q. split (lex-yes lt (by (λ j. j)) b i q) (λ y. y) (λ y. absurd (omega (arith, ltb-true b i (y .2)))))

@@ -3,3 +3,4 @@ pub mod Count
 pub mod Members
 pub mod Sums
 pub mod Choice
+pub mod Rearranged

@@ -1,14 +1,15 @@
 -- Who is in a group: membership in a filter, in the places of a set, and what holds of every member.
 use Prim.Native.Nat.{ℕ, zero, suc, _+_, _≤_, _<_}
 use mathlib.Core.Bool.{Bool, true, false, not}
-use mathlib.Core.List.{List, [], _∷_, List·Memᴰ, List·Memᴰ·head, List·Memᴰ·tail, List·Memᴰ·cases-cons, List·Memᴰ·not-nil, Memᴰ·cast}
+use mathlib.Core.List.{List, [], _∷_, List·Memᴰ, List·Memᴰ·head, List·Memᴰ·tail, List·Memᴰ·cases-cons, List·Memᴰ·not-nil}
 use mathlib.Core.Logic.{_≢_, _⊎_, inl, inr}
-use mathlib.Core.Path.{_≡_, refl, sym}
+use mathlib.Core.Path.{_≡_, refl, _∙_, ap}
 use native.Mathlib.Omega.{arith}
-use borrow.Author.Tests.{ne-eqb, not-true}
+use borrow.Author.Tests.{ne-eqb, not-true, eqb-false, eqb-true, not-false}
 use lib.Dec.{eqb}
-use Rattle.lists.specs.Places.{from, filter, without, Every, InOrder, Nodup}
+use Rattle.lists.specs.Places.{from, filter, without, Every, InOrder, Nodup, places}
 use Rattle.lists.proofs.Cases.{split, test, clash, tests}
+use lib.ListN.{length}
 
 -- A member of x ∷ xs is x or a member of xs.
 pub in-cons : {i x : ℕ} {xs : List ℕ} {X : Type 0} → List·Memᴰ i (x ∷ xs) → (i ≡ x → X) → (List·Memᴰ i xs → X) → X
@@ -110,3 +111,48 @@ inorder-filter f U (x ∷ xs) s =
       inorder-filter f U xs (s .1),
     ))
     (λ q. rw (q .1) (inorder-filter f U xs (s .1)))
+
+pub cons-nil : {X : Type 0} {x : ℕ} {xs : List ℕ} → x ∷ xs ≡ [] → X
+cons-nil e = let z : _≡_ {A = ℕ} 0 1 = cc in absurd (omega arith)
+
+-- A subset that picks everybody is the whole group.
+pub filter-all : (U : ℕ → Bool) (xs : List ℕ) → ((i : ℕ) → List·Memᴰ i xs → U i ≡ true) → filter U xs ≡ xs
+filter-all U [] h = filter-nil U
+filter-all U (x ∷ xs) h =
+    split (filter-cases U x xs)
+    (λ q. q .1 ∙ ap (λ (ys : List ℕ). x ∷ ys) (filter-all U xs (λ i m. h i (List·Memᴰ·tail m))))
+    (λ q. clash (h x (List·Memᴰ·head refl)) (q .0))
+
+-- A group is empty or not.
+pub or-filled : (xs : List ℕ) → (xs ≡ []) ⊎ (xs ≢ [])
+or-filled [] = inl refl
+or-filled (x ∷ xs) = inr (λ e. cons-nil e)
+
+-- What taking b out does at the head.
+pub without-cases :
+    (b x : ℕ) (xs : List ℕ)
+    → ((x ≢ b) × (without b (x ∷ xs) ≡ x ∷ without b xs)) ⊎ ((x ≡ b) × (without b (x ∷ xs) ≡ without b xs))
+without-cases b x xs =
+    split (filter-cases (λ i. not (eqb i b)) x xs)
+    (λ q. inl (eqb-false x b (not-true (eqb x b) (q .0)), q .1))
+    (λ q. inr (eqb-true x b (not-false (eqb x b) (q .0)), q .1))
+
+-- A subset that does not pick b is a subset of the rest.
+pub filter-without : (U : ℕ → Bool) (b : ℕ) (xs : List ℕ) → U b ≡ false → filter U (without b xs) ≡ filter U xs
+unfolding filter
+filter-without U b [] u = refl
+filter-without U b (x ∷ xs) u =
+    let ih = filter-without U b xs u in
+    test (eqb x b)
+    (λ e. let q : U x ≡ false = ap U (eqb-true x b e) ∙ u in rw (e, q) ih)
+    (λ e. rw e (test (U x) (λ y. rw y (ap (λ (ys : List ℕ). x ∷ ys) ih)) (λ y. rw y ih)))
+
+pub places-nil : (n : ℕ) → places n ≡ [] → n ≡ 0
+unfolding from
+places-nil zero e = refl
+places-nil (suc n) e = let z : _≡_ {A = ℕ} 0 1 = cc in absurd (omega arith)
+
+pub from-length : (a n : ℕ) → length (from a n) ≡ n
+unfolding from
+from-length a zero = refl
+from-length a (suc n) = ap suc (from-length (suc a) n)

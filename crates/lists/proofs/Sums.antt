@@ -1,12 +1,12 @@
 -- Sums, least and greatest over a group: of a subset, of two functions that agree, with one member taken out.
-use Prim.Native.Nat.{ℕ, zero, suc, _+_, _≤_, _<_}
+use Prim.Native.Nat.{ℕ, zero, suc, _+_, _≤_}
 use mathlib.Core.Bool.{Bool, true, false, not}
 use mathlib.Core.List.{List, [], _∷_, List·Memᴰ, List·Memᴰ·head, List·Memᴰ·tail, Memᴰ·cast}
 use mathlib.Core.Logic.{_≢_}
 use mathlib.Core.Path.{_≡_, refl, sym, ap}
 use native.Mathlib.Omega.{arith}
 use lib.Dec.{eqb, ltb}
-use Rattle.lists.specs.Places.{filter, without, weight, least, greatest, Every, InOrder, Nodup}
+use Rattle.lists.specs.Places.{filter, without, weight, least, greatest, Every, Nodup, from}
 use Rattle.lists.proofs.Cases.{split, test, clash, tests}
 use Rattle.lists.proofs.Members.{in-cons, in-nil, filter-cases, filter-nil, every-in}
 
@@ -160,3 +160,14 @@ weight-one-more f g b (x ∷ xs) d m e h =
       weight-one-more f g b xs (d .1) t e (λ i n. h i (List·Memᴰ·tail n)),
       h x (List·Memᴰ·head refl) (λ w. d .0 (Memᴰ·cast w t)),
     ))
+
+-- The last place of a set, put behind the others.
+pub weight-from : (f : ℕ → ℕ) (a n k : ℕ) → k ≡ a + n → weight f (from a (suc n)) ≡ weight f (from a n) + f k
+unfolding from weight
+weight-from f a zero k e = let q : k ≡ a = omega arith in omega (arith, ap f q)
+weight-from f a (suc n) k e = omega (arith, weight-from f (suc a) n k (omega arith))
+
+pub count-from : (a n : ℕ) → weight (λ i. 1) (from a n) ≡ n
+unfolding from weight
+count-from a zero = refl
+count-from a (suc n) = omega (arith, count-from (suc a) n)

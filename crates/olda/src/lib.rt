@@ -1,5 +1,17 @@
 // The assignment: OLDA on one core. Each sub-job of a set gets a local deadline, or the set is refused.
+ghost use mathlib.Core.Path.{_≡_};
+ghost use lib.ListN.{length};
+ghost use Rattle.subjobs.specs.Sets.{subjobs};
+ghost use Rattle.olda.specs.Answers.{answer, results};
+use subjobs::Judgement;
 use subjobs::Reason;
+
+mod choosing;
+mod fitting;
+mod placing;
+mod reporting;
+mod sorting;
+mod tailing;
 
 // The least slack of an accepted set and the smallest place that has it.
 pub struct Report {
@@ -12,4 +24,33 @@ pub enum Answer {
     Placed(Report),
     Nothing,
     Refused(Reason),
+}
+
+// Gives each sub-job of a set its local deadline, at its place of the result list. After a refusal the result list
+// holds what it held before.
+pub fn assign(
+    jobs: &[u32],
+    subtasks: &[u32],
+    releases: &[u32],
+    executions: &[u32],
+    deadlines: &[u32],
+    criticals: &[u32],
+    out: &mut [u32],
+) -> Answer
+    ensures { λ r. ⌜ (r ≡ answer (subjobs (now (jobs .entry)) (now (subtasks .entry)) (now (releases .entry)) (now (executions .entry)) (now (deadlines .entry)) (now (criticals .entry))) (length (now (out .entry)))) × (now (out .exit) ≡ results (subjobs (now (jobs .entry)) (now (subtasks .entry)) (now (releases .entry)) (now (executions .entry)) (now (deadlines .entry)) (now (criticals .entry))) (now (out .entry))) ⌝ }
+{
+    let others = out.len() == jobs.len();
+    let judgement = subjobs::judge(
+        jobs,
+        subtasks,
+        releases,
+        executions,
+        deadlines,
+        criticals,
+        others,
+    );
+    match judgement {
+        Judgement::Refused(reason) => Answer::Refused(reason),
+        Judgement::Passed => fitting::assign_fit(releases, executions, deadlines, criticals, out),
+    }
 }

@@ -1,1 +1,5 @@
 pub mod Table
+pub mod Assignment
+pub mod Outcomes
+pub mod Peel
+pub mod Exact

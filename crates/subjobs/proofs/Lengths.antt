@@ -1,12 +1,10 @@
 -- What refusal 1 leaves: all lists have the set's size. And the judgement, taken apart at its first two tests.
-use Prim.Native.Nat.{ℕ, _<_, _≤_}
+use Prim.Native.Nat.{_<_, _≤_}
 use mathlib.Core.Bool.{Bool, true, false}
-use mathlib.Core.Path.{_≡_, ap, _∙_}
+use mathlib.Core.Path.{_≡_}
 use borrow.Author.Tests.{lt-ltb, le-ltb, eqb-true}
-use lib.Dec.{eqb}
 use lib.ListN.{length}
 use Rattle.lists.proofs.Cases.{both}
-use Rattle.subjobs.specs.declared.Judgement.{Judgement}
 use Rattle.subjobs.specs.declared.Judgement.the-variants.{Refused}
 use Rattle.subjobs.specs.declared.Reason.the-variants.{Lengths, TooMany}
 use Rattle.subjobs.specs.Sets.{Subjobs, size, job, subtask, release, execution, deadline, critical}

@@ -1,3 +1,5 @@
 pub mod Searching
 pub mod Lengths
 pub mod Fit
+pub mod Reported
+pub mod Bounds

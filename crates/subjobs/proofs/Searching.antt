@@ -1,5 +1,5 @@
 -- The refusal of the smallest place, one place after the other.
-use Prim.Native.Nat.{ℕ, suc, _+_, _-_, _<_, _≤_}
+use Prim.Native.Nat.{ℕ, _+_, _-_, _<_, _≤_}
 use mathlib.Core.Path.{_≡_}
 use native.Mathlib.Numerals.{add-one}
 use Rattle.lists.proofs.Count.{left-more, left-none}

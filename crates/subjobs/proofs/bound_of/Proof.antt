@@ -1,9 +1,7 @@
 -- `bound_of` meets its contract. A signed number is held as bits, so the bound of number 5 is read back from its bits.
-use borrow.Author.Needs.{needs}
-use borrow.Author.Needs.{sfits-of}
+use borrow.Author.Needs.{needs, sfits-of}
 use mir.Facts.{toZ-ofZ}
 use mir.Syntax.{w64}
-use borrow.Author.Needs.{needs}
 use Rattle.subjobs.proofs.bound_of.Statement.{statement}
 use Rattle.subjobs.proofs.bound_of.Tie as tie
 

@@ -6,7 +6,6 @@ use borrow.Author.Tests.{not-true, not-false}
 use Rattle.subjobs.specs.Sets.{Subjobs, subjobs}
 use Rattle.subjobs.specs.Judging.{oneLength}
 use Rattle.subjobs.proofs.Lengths.{one-length, judged-lengths, judged-many, judged-rest}
-use borrow.Author.Needs.{needs}
 use Rattle.subjobs.proofs.judge.Statement.{statement}
 use Rattle.subjobs.proofs.judge.Tie as tie
 

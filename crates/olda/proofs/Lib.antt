@@ -1,0 +1,15 @@
+pub mod Tails
+pub mod Falls
+pub mod Gap
+pub mod ReleaseOrder
+pub mod Rules
+pub mod Obeys
+pub mod Accepted
+pub mod Mapped
+pub mod TailParts
+pub mod Shifts
+pub mod Chosen
+pub mod Inserting
+pub mod Turns
+pub mod Raised
+pub mod Reports

@@ -1,0 +1,70 @@
+-- The report of an accepted set, from its raised bounds.
+use Prim.Native.Nat.{ℕ, zero, suc, _+_, _<_, _≤_}
+use mathlib.Core.List.{List, [], _∷_}
+use mathlib.Core.Option.{Option, some}
+use mathlib.Core.Path.{_≡_, refl, ap, sym, subst, _∙_}
+use native.Mathlib.Omega.{arith}
+use lib.IntN.{ℤ, subℕ}
+use lib.ListN.{take, replicate}
+use Rattle.lists.specs.Places.{Every, from, places}
+use Rattle.lists.specs.Order.{choose}
+use Rattle.subjobs.specs.Sets.{Subjobs, size, release, execution, deadline, critical, bound, byBound}
+use Rattle.olda.specs.declared.Answer.{Answer}
+use Rattle.olda.specs.declared.Answer.the-variants.{Placed, Nothing}
+use Rattle.olda.specs.Method.{lower, inOrder, steps, method}
+use Rattle.olda.specs.Answers.{report}
+use Rattle.olda.proofs.Inserting.{in-order-below}
+use Rattle.olda.proofs.Raised.{Raised, choose-same, raised-slack, raised-steps, sub-same, sub-less}
+
+from-below : (k n : ℕ) → Every (λ i. i < k + n) (from k n)
+unfolding from
+from-below k zero = tt
+from-below k (suc n) = let z : k + suc n ≡ suc k + n = omega arith in (omega arith, rw z (from-below (suc k) n))
+
+places-below : (n : ℕ) → Every (λ i. i < n) (places n)
+places-below n = let z : n ≡ 0 + n = omega arith in subst (λ (m : ℕ). Every (λ i. i < m) (places n)) (sym z) (from-below 0 n)
+
+take-replicate : (n m : ℕ) → n ≤ m → take {A = ℕ} n (replicate m 0) ≡ replicate n 0
+take-replicate zero m h = refl
+take-replicate (suc n) zero h = absurd (omega arith)
+take-replicate (suc n) (suc m) h = ap (λ (l : List ℕ). 0 ∷ l) (take-replicate n m (omega arith))
+
+module _ (s : Subjobs) (n : ℕ) (e : size s ≡ n) where
+  pub report-none : (d : ℕ → ℕ) → n ≡ 0 → report s d ≡ Nothing
+  unfolding report choose from
+  report-none d z = rw (e, z)
+
+  pub report-some :
+      (d u : ℕ → ℕ) (p : ℕ)
+      → Raised n (deadline s) (critical s) u
+      → p < n
+      → choose (byBound u d) (places n) ≡ some p
+      → report s d ≡ Placed (record { slack = subℕ (u p) (1_000_000_000 + d p); place = p })
+  unfolding report
+  report-some d u p r h ch =
+      let b = r p h in
+      rw (
+        e,
+        choose-same n (byBound (deadline s) (λ i. critical s i + d i)) (byBound u d) (λ i j. raised-slack n (deadline s) (critical s) u r d i j) (places n) (places-below n),
+        ch,
+      )
+      (ap (λ (z : ℤ). Placed (record { slack = z; place = p }))
+      (sub-less (deadline s p) (critical s p) (d p)
+      ∙ sub-same (deadline s p) (critical s p + d p) (u p) (1_000_000_000 + d p) (omega arith)))
+
+  -- The method by raised bounds, on an array of zeros that is longer than the set.
+  pub method-raised :
+      (u : ℕ → ℕ)
+      → Raised n (deadline s) (critical s) u
+      → n ≤ 128
+      → steps (release s) (execution s) (lower u (λ k. 0)) u (λ k. 1_000_000_000) n (inOrder (release s) n) (take n (replicate 128 0)) ≡ method s
+  unfolding method
+  method-raised u r few =
+      sym
+      (rw e
+      (raised-steps n (deadline s) (critical s) u r (release s) (execution s) n (inOrder (release s) n) (replicate n 0) (in-order-below (release s) n)
+      ∙ rw (take-replicate n 128 few)))
+
+  pub bound-raised :
+      (u : ℕ → ℕ) (p : ℕ) → Raised n (deadline s) (critical s) u → p < n → bound (deadline s) (critical s) p ≡ subℕ (u p) 1_000_000_000
+  bound-raised u p r h = let b = r p h in sub-same (deadline s p) (critical s p) (u p) 1_000_000_000 (omega arith)

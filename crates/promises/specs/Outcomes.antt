@@ -1,0 +1,43 @@
+-- What holds of every public entry: a refused call changes nothing, an accepted one writes the whole list,
+-- and its statement allows one outcome only.
+--
+--   RefusedKeeps  == after a refusal every lent list and the totals hold what they held
+--   WritesAll     == after acceptance every place of the result list is written, whatever it held
+--   OneOutcome    == two outcomes that an entry's statement allows are equal
+use Prim.Native.Nat.{ℕ}
+use mathlib.Core.List.{List}
+use mathlib.Core.Path.{_≡_}
+use lib.ListN.{length}
+use Rattle.subjobs.specs.declared.Reason.{Reason}
+use Rattle.subjobs.specs.Sets.{Subjobs, size}
+use Rattle.olda.specs.declared.Answer.the-variants as placing
+use Rattle.olda.specs.declared.Report as olda-report
+use Rattle.olda.specs.Answers as olda
+use Rattle.edf.specs.declared.Answer.the-variants as running
+use Rattle.edf.specs.declared.Report as edf-report
+use Rattle.edf.specs.declared.Totals.{Totals}
+use Rattle.edf.specs.Answers as edf
+
+-- A refused call changes no list and no total.
+abbrev pub RefusedKeeps : Type 0
+RefusedKeeps =
+    ((s : Subjobs) (out : List ℕ) (r : Reason) → olda.answer s (length out) ≡ placing.Refused r → olda.results s out ≡ out)
+    × ((s : Subjobs) (ds asks fs : List ℕ) (t : Totals) (r : Reason)
+    → edf.answer s ds asks (length fs) t ≡ running.Refused r
+    → (edf.finishes s ds asks fs t ≡ fs) × (edf.totals s ds asks (length fs) t ≡ t))
+
+-- After acceptance the whole result list is written: it has the set's size, and nothing of what it held is left.
+abbrev pub WritesAll : Type 0
+WritesAll =
+    ((s : Subjobs) (out old : List ℕ) (r : olda-report.Report)
+    → olda.answer s (length out) ≡ placing.Placed r
+    → length old ≡ length out
+    → (olda.results s out ≡ olda.results s old) × (length (olda.results s out) ≡ length out))
+    × ((s : Subjobs) (ds asks fs old : List ℕ) (t : Totals) (r : edf-report.Report)
+    → edf.answer s ds asks (length fs) t ≡ running.Ran r
+    → length old ≡ length fs
+    → (edf.finishes s ds asks fs t ≡ edf.finishes s ds asks old t) × (length (edf.finishes s ds asks fs t) ≡ length fs))
+
+-- Each contract says of the answer, and of each lent list and record, what it equals. So two outcomes are equal.
+abbrev pub OneOutcome : Type 1
+OneOutcome = (A : Type 0) (stated one other : A) → one ≡ stated → other ≡ stated → one ≡ other

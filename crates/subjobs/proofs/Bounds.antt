@@ -1,0 +1,104 @@
+-- The bridge between sums of naturals and signed numbers: a difference of naturals is compared by cross sums.
+use Prim.Native.Nat.{ℕ, zero, suc, _+_, _-_, _≤_, _<_}
+use mathlib.Core.Bool.{not}
+use mathlib.Core.Path.{_≡_, refl, sym, ap, _∙_}
+use native.Mathlib.Omega.{arith}
+use borrow.Author.Tests.{ltb-true, leb-true, leb-false, lt-ltb, le-ltb}
+use lib.Dec.{ltb, leb}
+use lib.IntN.{ℤ, pos, negsuc, subℕ, _-ℤ_}
+use lib.Signed.{leZ, ltZ}
+use Rattle.lists.proofs.Cases.{test, tests, tested}
+use Rattle.subjobs.specs.Sets.{bound, slack, byBound}
+use mathlib.Core.Logic.{inl, inr}
+use Rattle.lists.proofs.Choice.{Order}
+
+same-ltb : (x y u v : ℕ) → (x < y → u < v) → (u < v → x < y) → ltb x y ≡ ltb u v
+same-ltb x y u v f g =
+    test (ltb x y)
+    (λ e. e ∙ sym (lt-ltb u v (f (ltb-true x y e))))
+    (λ e. test (ltb u v) (λ q. lt-ltb x y (g (ltb-true u v q)) ∙ sym q) (λ q. e ∙ sym q))
+
+signed-less : (a b c d : ℕ) → ltZ (subℕ a b) (subℕ c d) ≡ ltb (a + d) (c + b)
+signed-less a b c d =
+    test (ltb a b)
+    (λ p.
+    test (ltb c d)
+    (λ q. rw (p, q) (same-ltb (d - suc c) (b - suc a) (a + d) (c + b) (omega tests) (omega tests)))
+    (λ q. rw (p, q) (sym (lt-ltb (a + d) (c + b) (omega tests)))))
+    (λ p.
+    test (ltb c d)
+    (λ q. rw (p, q) (sym (le-ltb (a + d) (c + b) (omega tests))))
+    (λ q. rw (p, q) (same-ltb (a - b) (c - d) (a + d) (c + b) (omega tests) (omega tests))))
+
+-- x ≤ y says that y is not below x.
+not-less : (x y : ℕ) → leb x y ≡ not (ltb y x)
+not-less x y =
+    test (leb x y)
+    (λ e. rw (e, le-ltb y x (leb-true x y e)))
+    (λ e. rw (e, lt-ltb y x (leb-false x y e)))
+
+pub signed-not : (x y : ℤ) → leZ x y ≡ not (ltZ y x)
+signed-not (pos a) (pos b) = not-less a b
+signed-not (pos a) (negsuc b) = refl
+signed-not (negsuc a) (pos b) = refl
+signed-not (negsuc a) (negsuc b) = not-less b a
+
+signed-le : (a b c d : ℕ) → leZ (subℕ a b) (subℕ c d) ≡ leb (a + d) (c + b)
+signed-le a b c d =
+    signed-not (subℕ a b) (subℕ c d) ∙ ap not (signed-less c d a b) ∙ sym (not-less (a + d) (c + b))
+
+sub-neg : (a b : ℕ) → a < b → subℕ a b ≡ negsuc (b - suc a)
+sub-neg a b h = rw (lt-ltb a b h)
+
+sub-pos : (a b : ℕ) → b ≤ a → subℕ a b ≡ pos (a - b)
+sub-pos a b h = rw (le-ltb a b h)
+
+-- A natural is a difference ..
+pos-sub : (m : ℕ) → pos m ≡ subℕ m 0
+pos-sub m = sym (sub-pos m 0 (omega arith) ∙ ap pos (omega arith))
+
+-- .. and what is taken off a difference goes to what it takes off.
+sub-sub : (a b c : ℕ) → subℕ a b -ℤ pos c ≡ subℕ a (b + c)
+sub-sub a b c = test (ltb a b) (λ h. below c (omega tests)) (λ h. above c (omega tests))
+  where
+    below : (c : ℕ) → a < b → subℕ a b -ℤ pos c ≡ subℕ a (b + c)
+    below zero h =
+        rw (sub-neg a b h, sub-neg a (b + 0) (omega arith))
+        (sub-neg 0 (suc (b - suc a)) (omega arith) ∙ ap negsuc (omega arith))
+    below (suc k) h = rw (sub-neg a b h, sub-neg a (b + suc k) (omega arith)) (ap negsuc (omega arith))
+
+    above : (c : ℕ) → b ≤ a → subℕ a b -ℤ pos c ≡ subℕ a (b + c)
+    above zero h = rw (sub-pos a b h, sub-pos a (b + 0) (omega arith)) (ap pos (omega arith))
+    above (suc k) h =
+        rw (sub-pos a b h)
+        (test (ltb (a - b) (suc k))
+        (λ q.
+        sub-neg (a - b) (suc k) (omega tests) ∙ ap negsuc (omega arith) ∙ sym (sub-neg a (b + suc k) (omega tests)))
+        (λ q. sub-pos (a - b) (suc k) (omega tests) ∙ ap pos (omega arith) ∙ sym (sub-pos a (b + suc k) (omega tests))))
+
+module _ (dl z : ℕ → ℕ) where
+  pub bound-less : (i j : ℕ) → byBound dl z i j ≡ ltZ (bound dl z i) (bound dl z j)
+  bound-less i j = sym (signed-less (dl i) (z i) (dl j) (z j))
+
+  pub bound-met : (m i : ℕ) → leb (m + z i) (dl i) ≡ leZ (pos m) (bound dl z i)
+  bound-met m i =
+      sym
+      (ap (λ (x : ℤ). leZ x (bound dl z i)) (pos-sub m)
+      ∙ signed-le m 0 (dl i) (z i)
+      ∙ ap (leb (m + z i)) (omega arith))
+
+  pub slack-less : (d : ℕ → ℕ) (i j : ℕ) → byBound dl (λ k. z k + d k) i j ≡ ltZ (slack dl z d i) (slack dl z d j)
+  slack-less d i j =
+      sym
+      (ap (λ (x : ℤ). ltZ x (slack dl z d j)) (sub-sub (dl i) (z i) (d i))
+      ∙ ap (ltZ (subℕ (dl i) (z i + d i))) (sub-sub (dl j) (z j) (d j))
+      ∙ signed-less (dl i) (z i + d i) (dl j) (z j + d j))
+
+-- Upper bounds are an order.
+pub bound-order : (dl z : ℕ → ℕ) → Order (byBound dl z)
+bound-order dl z =
+    record {
+      irrefl = λ i. omega tested;
+      trans = λ i j k a b. omega tested;
+      parts = λ i j k h. test (byBound dl z i j) (λ q. inl q) (λ q. inr (omega tested));
+    }
