@@ -1,25 +1,18 @@
 -- The other half of the checker: a core that finishes all its sub-jobs by their deadlines shows that these meet (7).
 use Prim.Native.Nat.{ℕ, zero, suc, _-_, _≤_, _<_}
 use mathlib.Core.Bool.{Bool}
-use mathlib.Core.List.{List, [], _∷_, List·Memᴰ, List·Memᴰ·head, List·Memᴰ·tail}
+use mathlib.Core.List.{List, [], List·Memᴰ}
 use mathlib.Core.Logic.{_≢_}
-use mathlib.Core.Path.{_≡_, refl, _∙_}
+use mathlib.Core.Path.{_≡_, _∙_}
 use native.Mathlib.Omega.{arith}
 use Rattle.lists.specs.Places.{filter, weight, least, greatest, Nodup}
 use Rattle.lists.proofs.Cases.{split, test, clash}
 use Rattle.lists.proofs.Members.{filled, in-filter, filter-in, nodup-filter}
-use Rattle.lists.proofs.Sums.{weight-cong, weight-in, least-le, greatest-ge}
-use Rattle.lists.proofs.Choice.{Order}
+use Rattle.lists.proofs.Sums.{weight-cong, weight-in, least-le, greatest-ge, weight-zero}
 use Rattle.subjobs.specs.Conditions.{completion}
 use Rattle.edf.specs.Runs.{finish}
 use Rattle.edf.proofs.Service.{served, served-start, turn-cases, served-is-active, group-tick, group-other}
 use Rattle.edf.proofs.Finishes.{finish-by}
-
--- A sum of nothing.
-weight-zero : (f : ℕ → ℕ) (xs : List ℕ) → ((i : ℕ) → List·Memᴰ i xs → f i ≡ 0) → weight f xs ≡ 0
-unfolding weight
-weight-zero f [] h = refl
-weight-zero f (x ∷ xs) h = omega (arith, h x (List·Memᴰ·head refl), weight-zero f xs (λ i m. h i (List·Memᴰ·tail m)))
 
 module _ (r o : ℕ → ℕ) (lt : ℕ → ℕ → Bool) (xs : List ℕ) (small : (i : ℕ) → List·Memᴰ i xs → i < 128) (nodup : Nodup xs) where
   -- A subset is served one tick a tick, from its smallest release on.
@@ -57,11 +50,10 @@ module _ (r o : ℕ → ℕ) (lt : ℕ → ℕ → Bool) (xs : List ℕ) (small 
 
   -- With every finish by its deadline, all of a subset is served at its greatest deadline.
   pub met-seven :
-      Order lt
-      → (c d : ℕ → ℕ)
+      (c d : ℕ → ℕ)
       → ((i : ℕ) → List·Memᴰ i xs → (o i ≡ c i) × (0 < c i) × (finish r o lt xs i ≤ d i))
       → (U : ℕ → Bool) → filter U xs ≢ [] → completion r c (filter U xs) ≤ greatest d (filter U xs)
-  met-seven ord c d met U n =
+  met-seven c d met U n =
       let w = filled (filter U xs) n in
       omega (
         arith,
@@ -75,6 +67,6 @@ module _ (r o : ℕ → ℕ) (lt : ℕ → ℕ → Bool) (xs : List ℕ) (small 
       all i m =
           let e = filter-in U xs m .0 in
           let h = met i e in
-          finish-by r o lt xs small ord nodup i e (omega arith) (greatest d (filter U xs)) .0
+          finish-by r o lt xs small nodup i e (omega arith) (greatest d (filter U xs)) .0
           (omega (arith, greatest-ge d (filter U xs) m))
           ∙ h .0

@@ -8,37 +8,19 @@
 --   Room t   == what is left at t fits before D: of all the group from t on, of those released later from their release on
 use Prim.Native.Nat.{ℕ, zero, suc, _+_, _-_, _≤_, _<_, max}
 use mathlib.Core.Bool.{Bool, true, false, _&&_}
-use mathlib.Core.List.{List, [], _∷_, List·Memᴰ, List·Memᴰ·head, List·Memᴰ·tail}
+use mathlib.Core.List.{List, List·Memᴰ}
 use mathlib.Core.Logic.{_⊎_, inl, inr}
 use mathlib.Core.Option.{some}
-use mathlib.Core.Path.{_≡_, refl, sym, ap, _∙_}
+use mathlib.Core.Path.{_≡_, ap}
 use native.Mathlib.Omega.{arith}
 use borrow.Author.Tests.{le-leb}
 use lib.Dec.{leb}
 use Rattle.lists.specs.Places.{filter, weight, Nodup}
 use Rattle.lists.proofs.Cases.{split, test, clash, tests, both}
-use Rattle.lists.proofs.Members.{in-filter, filter-cases, filter-nil, nodup-filter}
-use Rattle.lists.proofs.Sums.{weight-cons, weight-le, weight-in, weight-one-more}
+use Rattle.lists.proofs.Members.{in-filter, nodup-filter}
+use Rattle.lists.proofs.Sums.{weight-le, weight-in, weight-one-more, weight-within}
 use Rattle.lists.proofs.Choice.{Order}
 use Rattle.edf.proofs.Service.{served, turn, turn-cases, served-first, served-is-active, idle-none, tick-one, tick-cases, served-grows, served-later, served-most}
-
--- A subset whose members are in another, but for those that weigh nothing, weighs no more than it.
-pub weight-within :
-    (f : ℕ → ℕ) (U X : ℕ → Bool) (xs : List ℕ)
-    → ((i : ℕ) → List·Memᴰ i xs → U i ≡ true → (X i ≡ true) ⊎ (f i ≡ 0))
-    → weight f (filter U xs) ≤ weight f (filter X xs)
-weight-within f U X [] h = omega (arith, ap (weight f) (filter-nil U ∙ sym (filter-nil X)))
-weight-within f U X (x ∷ xs) h =
-    let ih = weight-within f U X xs (λ i m. h i (List·Memᴰ·tail m)) in
-    let u = weight-cons f x (filter U xs) in
-    let v = weight-cons f x (filter X xs) in
-    split (filter-cases U x xs)
-    (λ p.
-    rw (p .1)
-    (split (filter-cases X x xs)
-    (λ q. rw (q .1) (omega arith))
-    (λ q. rw (q .1) (split (h x (List·Memᴰ·head refl) (p .0)) (λ t. clash t (q .0)) (λ z. omega arith)))))
-    (λ p. rw (p .1) (split (filter-cases X x xs) (λ q. rw (q .1) (omega arith)) (λ q. rw (q .1) ih)))
 
 module _ (r o : ℕ → ℕ) (lt : ℕ → ℕ → Bool) (xs : List ℕ) (h : ℕ → Bool) where
   abbrev pub left : ℕ → ℕ → ℕ

@@ -11,24 +11,15 @@ use lib.Dec.{leb, eqb}
 use Rattle.lists.specs.Places.{places, filter, weight, greatest, Nodup}
 use Rattle.lists.specs.Order.{by, lex}
 use Rattle.lists.proofs.Cases.{split, test, tests, both}
-use Rattle.lists.proofs.Members.{filter-in, from-in, in-from, nodup-from, or-filled}
+use Rattle.lists.proofs.Members.{filter-in, nodup-from, or-filled, places-in, in-places}
 use Rattle.lists.proofs.Sums.{weight-nil, weight-le, least-most, greatest-le}
 use Rattle.lists.proofs.Choice.{Order, by-order, lex-order, yes-lex}
 use Rattle.subjobs.specs.Conditions.{completion, Seven}
 use Rattle.edf.specs.Runs.{sooner, finish}
 use Rattle.edf.proofs.Service.{served}
 use Rattle.edf.proofs.Finishes.{finish-by}
+use Rattle.edf.proofs.Turns.{below}
 use Rattle.edf.proofs.Groups.{since, group-done, leads-tended}
-
--- The places of a set are those below its size, and where it has at most 128 each has a counter.
-pub below : (n i : ℕ) → List·Memᴰ i (places n) → i < n
-below n i m = let h = from-in 0 n m in omega arith
-
-pub placed : (n i : ℕ) → i < n → List·Memᴰ i (places n)
-placed n i h = in-from 0 n (omega arith) (omega arith)
-
-pub small : (n : ℕ) → n ≤ 128 → (i : ℕ) → List·Memᴰ i (places n) → i < 128
-small n few i m = omega (arith, below n i m)
 
 -- The order of service is one, and a smaller deadline comes before a greater.
 pub sooner-order : (d job subtask : ℕ → ℕ) → Order (sooner d job subtask)
@@ -81,13 +72,13 @@ module _
     (b : i < n) where
   pub kept : served r o (sooner d job subtask) (places n) (d i) i ≡ o i
   kept =
-      keeps r c o d (sooner d job subtask) (places n) (sooner-order d job subtask) (sooner-by d job subtask) (small n few)
-      (nodup-from 0 n) (λ j m. most j (below n j m)) seven i (placed n i b)
+      keeps r c o d (sooner d job subtask) (places n) (sooner-order d job subtask) (sooner-by d job subtask) (below n few)
+      (nodup-from 0 n) (λ j m. most j (places-in n j m)) seven i (in-places n i b)
 
   pub met : r i ≤ d i → finish r o (sooner d job subtask) (places n) i ≤ d i
   unfolding finish
   met h =
       test (eqb (o i) 0) (λ e. rw e h)
       (λ e.
-      finish-by r o (sooner d job subtask) (places n) (small n few) (sooner-order d job subtask) (nodup-from 0 n) i
-      (placed n i b) (omega tests) (d i) .1 kept)
+      finish-by r o (sooner d job subtask) (places n) (below n few) (nodup-from 0 n) i
+      (in-places n i b) (omega tests) (d i) .1 kept)

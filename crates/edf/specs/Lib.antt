@@ -1,3 +1,4 @@
 pub mod Core
 pub mod Runs
 pub mod Answers
+pub mod Events

@@ -1,4 +1,17 @@
 // The simulated core: one preemptive core under earliest deadline first, its finishes and its totals.
+//
+// The answer is that of single ticks (specs/Core.antt, specs/Runs.antt, specs/Answers.antt); the program jumps from event
+// to event (specs/Events.antt).
+ghost use mathlib.Core.Path.{_≡_};
+ghost use lib.ListN.{length};
+ghost use Rattle.subjobs.specs.Sets.{subjobs};
+ghost use Rattle.edf.specs.Answers as answers;
+ghost use Rattle.edf.specs.Events.{simulated};
+
+mod events;
+mod runs;
+
+use subjobs::Judgement;
 use subjobs::Reason;
 
 // The ticks of runs so far, served and not.
@@ -22,4 +35,74 @@ pub enum Answer {
 pub struct Simulated {
     pub answer: Answer,
     pub totals: Totals,
+}
+
+// A run of a set with these local deadlines and asks. On acceptance the finishes are written and the totals that come back
+// hold the run's ticks too; on a refusal list and totals are as they were.
+pub fn simulate(
+    jobs: &[u32],
+    subtasks: &[u32],
+    releases: &[u32],
+    executions: &[u32],
+    deadlines: &[u32],
+    criticals: &[u32],
+    local: &[u32],
+    asks: &[u32],
+    finishes: &mut [u32],
+    totals: Totals,
+) -> Simulated
+    ensures { λ r. ⌜ (r ≡ simulated (subjobs (now (jobs .entry)) (now (subtasks .entry)) (now (releases .entry)) (now (executions .entry)) (now (deadlines .entry)) (now (criticals .entry))) (now (local .entry)) (now (asks .entry)) (length (now (finishes .entry))) totals) × (now (finishes .exit) ≡ answers.finishes (subjobs (now (jobs .entry)) (now (subtasks .entry)) (now (releases .entry)) (now (executions .entry)) (now (deadlines .entry)) (now (criticals .entry))) (now (local .entry)) (now (asks .entry)) (now (finishes .entry)) totals) ⌝ }
+{
+    let n = jobs.len();
+    let others = (local.len() == n) & (asks.len() == n) & (finishes.len() == n);
+    let judged = subjobs::judge(
+        jobs,
+        subtasks,
+        releases,
+        executions,
+        deadlines,
+        criticals,
+        others,
+    );
+    match judged {
+        Judgement::Refused(reason) => Simulated {
+            answer: Answer::Refused(reason),
+            totals,
+        },
+        Judgement::Passed => {
+            let core = runs::run_out(jobs, subtasks, releases, executions, local, asks);
+            runs::settle(releases, executions, asks, core, finishes, totals)
+        }
+    }
+}
+
+// The same with the record of totals lent: it holds what comes back, whether the run was accepted or refused.
+pub fn run(
+    jobs: &[u32],
+    subtasks: &[u32],
+    releases: &[u32],
+    executions: &[u32],
+    deadlines: &[u32],
+    criticals: &[u32],
+    local: &[u32],
+    asks: &[u32],
+    finishes: &mut [u32],
+    totals: &mut Totals,
+) -> Answer
+    ensures { λ r. ⌜ (r ≡ simulated (subjobs (now (jobs .entry)) (now (subtasks .entry)) (now (releases .entry)) (now (executions .entry)) (now (deadlines .entry)) (now (criticals .entry))) (now (local .entry)) (now (asks .entry)) (length (now (finishes .entry))) (now (totals .entry)) .answer) × (now (totals .exit) ≡ simulated (subjobs (now (jobs .entry)) (now (subtasks .entry)) (now (releases .entry)) (now (executions .entry)) (now (deadlines .entry)) (now (criticals .entry))) (now (local .entry)) (now (asks .entry)) (length (now (finishes .entry))) (now (totals .entry)) .totals) × (now (finishes .exit) ≡ answers.finishes (subjobs (now (jobs .entry)) (now (subtasks .entry)) (now (releases .entry)) (now (executions .entry)) (now (deadlines .entry)) (now (criticals .entry))) (now (local .entry)) (now (asks .entry)) (now (finishes .entry)) (now (totals .entry))) ⌝ }
+{
+    let simulated = simulate(
+        jobs,
+        subtasks,
+        releases,
+        executions,
+        deadlines,
+        criticals,
+        local,
+        asks,
+        finishes,
+        *totals,
+    );
+    *totals = simulated.totals;
+    simulated.answer
 }

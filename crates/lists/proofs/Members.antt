@@ -156,3 +156,10 @@ pub from-length : (a n : ℕ) → length (from a n) ≡ n
 unfolding from
 from-length a zero = refl
 from-length a (suc n) = ap suc (from-length (suc a) n)
+
+-- The places of a set are those below its size.
+pub places-in : (n i : ℕ) → List·Memᴰ i (places n) → i < n
+places-in n i m = omega (arith, from-in 0 n m .1)
+
+pub in-places : (n i : ℕ) → i < n → List·Memᴰ i (places n)
+in-places n i h = in-from 0 n (omega arith) (omega arith)

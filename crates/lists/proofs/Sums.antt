@@ -2,8 +2,8 @@
 use Prim.Native.Nat.{ℕ, zero, suc, _+_, _≤_}
 use mathlib.Core.Bool.{Bool, true, false, not}
 use mathlib.Core.List.{List, [], _∷_, List·Memᴰ, List·Memᴰ·head, List·Memᴰ·tail, Memᴰ·cast}
-use mathlib.Core.Logic.{_≢_}
-use mathlib.Core.Path.{_≡_, refl, sym, ap}
+use mathlib.Core.Logic.{_≢_, _⊎_}
+use mathlib.Core.Path.{_≡_, refl, sym, ap, _∙_}
 use native.Mathlib.Omega.{arith}
 use lib.Dec.{eqb, ltb}
 use Rattle.lists.specs.Places.{filter, without, weight, least, greatest, Every, Nodup, from}
@@ -171,3 +171,27 @@ pub count-from : (a n : ℕ) → weight (λ i. 1) (from a n) ≡ n
 unfolding from weight
 count-from a zero = refl
 count-from a (suc n) = omega (arith, count-from (suc a) n)
+
+-- A sum of nothing.
+pub weight-zero : (f : ℕ → ℕ) (xs : List ℕ) → ((i : ℕ) → List·Memᴰ i xs → f i ≡ 0) → weight f xs ≡ 0
+unfolding weight
+weight-zero f [] h = refl
+weight-zero f (x ∷ xs) h = omega (arith, h x (List·Memᴰ·head refl), weight-zero f xs (λ i m. h i (List·Memᴰ·tail m)))
+
+-- A subset whose members are in another, but for those that weigh nothing, weighs no more than it.
+pub weight-within :
+    (f : ℕ → ℕ) (U X : ℕ → Bool) (xs : List ℕ)
+    → ((i : ℕ) → List·Memᴰ i xs → U i ≡ true → (X i ≡ true) ⊎ (f i ≡ 0))
+    → weight f (filter U xs) ≤ weight f (filter X xs)
+weight-within f U X [] h = omega (arith, ap (weight f) (filter-nil U ∙ sym (filter-nil X)))
+weight-within f U X (x ∷ xs) h =
+    let ih = weight-within f U X xs (λ i m. h i (List·Memᴰ·tail m)) in
+    let u = weight-cons f x (filter U xs) in
+    let v = weight-cons f x (filter X xs) in
+    split (filter-cases U x xs)
+    (λ p.
+    rw (p .1)
+    (split (filter-cases X x xs)
+    (λ q. rw (q .1) (omega arith))
+    (λ q. rw (q .1) (split (h x (List·Memᴰ·head refl) (p .0)) (λ t. clash t (q .0)) (λ z. omega arith)))))
+    (λ p. rw (p .1) (split (filter-cases X x xs) (λ q. rw (q .1) (omega arith)) (λ q. rw (q .1) ih)))

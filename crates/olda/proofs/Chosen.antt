@@ -1,9 +1,9 @@
 -- The choice of one of a list, one place after the other.
-use Prim.Native.Nat.{ℕ, suc, _+_, _<_, _≤_}
-use mathlib.Core.Bool.{Bool, cond}
-use mathlib.Core.List.{List, [], _∷_}
-use mathlib.Core.Option.{Option, some}
-use mathlib.Core.Path.{_≡_}
+use Prim.Native.Nat.{ℕ, _+_, _<_, _≤_}
+use mathlib.Core.Bool.{Bool, true, false, cond}
+use mathlib.Core.List.{List}
+use mathlib.Core.Option.{some}
+use mathlib.Core.Path.{_≡_, sym}
 use native.Mathlib.Numerals.{add-one}
 use native.Mathlib.Omega.{arith}
 use lib.ListN.{length, getD, drop, drop-of-length-le}
@@ -17,27 +17,36 @@ module _ (lt : ℕ → ℕ → Bool) (xs : List ℕ) where
   unfolding choose
   choose-first h = rw (drop-cons xs 0 0 h)
 
-  pub ahead-step :
-      (p i : ℕ)
-      → i < length xs
-      → ahead lt p (drop i xs) ≡ ahead lt (cond (lt (getD xs i 0) p) (getD xs i 0) p) (drop (i + 1) xs)
-  unfolding ahead
-  ahead-step p i h = rw (drop-cons xs i 0 h, add-one)
+  -- p against those from i on: the one at i takes its place, or does not.
+  module _ (p i q : ℕ) (h : i < length xs) (e : ahead lt p (drop i xs) ≡ q) where
+    step : ahead lt (cond (lt (getD xs i 0) p) (getD xs i 0) p) (drop (i + 1) xs) ≡ q
+    unfolding ahead
+    step = rw (add-one) (rw (drop-cons xs i 0 h) at e)
 
-  pub ahead-end : (p i : ℕ) → length xs ≤ i → ahead lt p (drop i xs) ≡ p
+    pub ahead-yes : lt (getD xs i 0) p ≡ true → ahead lt (getD xs i 0) (drop (i + 1) xs) ≡ q
+    ahead-yes t = rw t at step
+
+    pub ahead-no : lt (getD xs i 0) p ≡ false → ahead lt p (drop (i + 1) xs) ≡ q
+    ahead-no t = rw t at step
+
+  pub ahead-end : (p i q : ℕ) → length xs ≤ i → ahead lt p (drop i xs) ≡ q → q ≡ p
   unfolding ahead
-  ahead-end p i h = rw (drop-of-length-le xs h)
+  ahead-end p i q h e = sym (rw (drop-of-length-le xs h) at e)
 
 -- The same over all places of a set.
 module _ (lt : ℕ → ℕ → Bool) (n : ℕ) where
   pub choose-place : 0 < n → choose lt (places n) ≡ some (ahead lt 0 (drop 1 (places n)))
-  choose-place h =
-      rw (places-at n 0 h) at (choose-first lt (places n) (omega (arith, places-length n)))
+  choose-place h = rw (places-at n 0 h) at (choose-first lt (places n) (omega (arith, places-length n)))
 
-  pub ahead-place : (p i : ℕ) → i < n → ahead lt p (drop i (places n)) ≡ ahead lt (cond (lt i p) i p) (drop (i + 1) (places n))
-  ahead-place p i h =
-      let z = places-at n i h in
-      rw z at (ahead-step lt (places n) p i (omega (arith, places-length n)))
+  module _ (p i q : ℕ) (h : i < n) (e : ahead lt p (drop i (places n)) ≡ q) where
+    here : i < length (places n)
+    here = omega (arith, places-length n)
 
-  pub ahead-last : (p i : ℕ) → n ≤ i → ahead lt p (drop i (places n)) ≡ p
-  ahead-last p i h = ahead-end lt (places n) p i (omega (arith, places-length n))
+    pub place-yes : lt i p ≡ true → ahead lt i (drop (i + 1) (places n)) ≡ q
+    place-yes t = rw (places-at n i h) at (ahead-yes lt (places n) p i q here e (rw (places-at n i h) t))
+
+    pub place-no : lt i p ≡ false → ahead lt p (drop (i + 1) (places n)) ≡ q
+    place-no t = ahead-no lt (places n) p i q here e (rw (places-at n i h) t)
+
+  pub place-end : (p i q : ℕ) → n ≤ i → ahead lt p (drop i (places n)) ≡ q → q ≡ p
+  place-end p i q h e = ahead-end lt (places n) p i q (omega (arith, places-length n)) e

@@ -13,3 +13,5 @@ pub mod Inserting
 pub mod Turns
 pub mod Raised
 pub mod Reports
+pub mod Results
+pub mod AllPlaces

@@ -7,6 +7,7 @@ use native.Mathlib.Numerals.{add-one}
 use lib.ListN.{length, getD, take, drop, set, length-map}
 use lib.Seq.{take-suc, take-suc-set}
 use Rattle.lists.specs.Places.{Every, from, places}
+use Rattle.lists.proofs.Members.{from-length}
 
 pub drop-map : (f : ℕ → ℕ) (xs : List ℕ) (i : ℕ) → drop i (map f xs) ≡ map f (drop i xs)
 drop-map f [] zero = refl
@@ -49,11 +50,6 @@ unfolding from
 from-at k zero i h = absurd (omega arith)
 from-at k (suc n) zero h = omega arith
 from-at k (suc n) (suc i) h = from-at (suc k) n i (omega arith) ∙ omega arith
-
-from-length : (k n : ℕ) → length (from k n) ≡ n
-unfolding from
-from-length k zero = refl
-from-length k (suc n) = ap suc (from-length (suc k) n)
 
 pub places-at : (n i : ℕ) → i < n → getD (places n) i 0 ≡ i
 places-at n i h = from-at 0 n i h ∙ omega arith

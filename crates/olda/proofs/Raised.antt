@@ -1,24 +1,23 @@
 -- Upper bounds raised by 1,000,000,000: no number is negative, and whatever is asked of bounds has the same answer. With
 -- raised bounds nothing is left to take off but the raise itself.
-use Prim.Native.Nat.{ℕ, zero, suc, _+_, _-_, _<_, _≤_}
-use mathlib.Core.Bool.{Bool, true, false, cond, not, _&&_, _||_}
+use Prim.Native.Nat.{ℕ, zero, suc, _+_, _<_, _≤_}
+use mathlib.Core.Bool.{Bool}
 use mathlib.Core.List.{List, [], _∷_}
 use mathlib.Core.Option.{Option, none, some}
 use mathlib.Core.Path.{_≡_, refl, ap, sym, _∙_}
 use native.Mathlib.Omega.{arith}
-use borrow.Author.Needs.{sfits-of}
 use borrow.Author.Tests.{lt-ltb, le-ltb, le-leb, lt-leb}
 use lib.Dec.{ltb, leb, eqb}
-use lib.IntN.{ℤ, pos, negsuc, subℕ, _-ℤ_}
 use lib.ListN.{length, getD, set}
-use mir.Syntax.{w64}
-use mir.Val.{SFits}
 use lib.Seq.{getD-set-same, getD-set-other}
-use Rattle.lists.specs.Places.{Every, filter, without, weight}
+use Rattle.lists.specs.Places.{Every, without}
 use Rattle.lists.specs.Order.{reversed, ahead, choose, given}
 use Rattle.lists.proofs.Cases.{test, tests, eqb-no}
+use Rattle.lists.proofs.Members.{every-in, in-every, without-in}
+use Rattle.lists.proofs.Choice.{chosen-in}
 use Rattle.subjobs.specs.Sets.{byBound}
-use Rattle.olda.specs.Method.{Outcome, placed, stuck, best, base, lower, steps}
+use Rattle.olda.specs.Method.{placed, best, base, lower, steps}
+use Rattle.olda.proofs.AllPlaces.{every-base}
 
 same-ltb : (a b c d : ℕ) → (a < b → c < d) → (b ≤ a → d ≤ c) → ltb a b ≡ ltb c d
 same-ltb a b c d f g =
@@ -41,31 +40,6 @@ module _ (n : ℕ) (lt lt′ : ℕ → ℕ → Bool) (same : (i j : ℕ) → i <
   unfolding choose
   choose-same [] e = refl
   choose-same (x ∷ xs) e = ap some (ahead-same x xs (e .0) (e .1))
-
--- What is chosen is one of those to choose from.
-module _ (P : ℕ → Type 0) (lt : ℕ → ℕ → Bool) where
-  ahead-every : (p : ℕ) (xs : List ℕ) → P p → Every P xs → P (ahead lt p xs)
-  unfolding ahead
-  ahead-every p [] h e = h
-  ahead-every p (x ∷ xs) h e =
-      test (lt x p) (λ t. rw t (ahead-every x xs (e .0) (e .1))) (λ t. rw t (ahead-every p xs h (e .1)))
-
-  pub choose-every : (xs : List ℕ) (b : ℕ) → Every P xs → choose lt xs ≡ some b → P b
-  unfolding choose
-  choose-every [] b e q = let z : _≡_ {A = ℕ} 0 1 = cc in absurd (omega arith)
-  choose-every (x ∷ xs) b e q = let z : ahead lt x xs ≡ b = cc in rw (← z) (ahead-every x xs (e .0) (e .1))
-
-every-base : (P : ℕ → Type 0) (r c : ℕ → ℕ) (xs : List ℕ) → Every P xs → Every P (base r c xs)
-unfolding base
-every-base P r c [] e = tt
-every-base P r c (x ∷ xs) e =
-    test (ltb (best r c xs) (r x + weight c (x ∷ xs))) (λ t. rw t e) (λ t. rw t (every-base P r c xs (e .1)))
-
-every-filter : (P : ℕ → Type 0) (U : ℕ → Bool) (xs : List ℕ) → Every P xs → Every P (filter U xs)
-unfolding filter
-every-filter P U [] e = tt
-every-filter P U (x ∷ xs) e =
-    test (U x) (λ t. rw t (e .0, every-filter P U xs (e .1))) (λ t. rw t (every-filter P U xs (e .1)))
 
 given-same : {A : Type 0} (q : Option ℕ) (a : A) (f g : ℕ → A) → ((b : ℕ) → q ≡ some b → f b ≡ g b) → given q a f ≡ given q a g
 given-same none a f g h = refl
@@ -108,54 +82,12 @@ module _ (n : ℕ) (dl z u : ℕ → ℕ) (raised : Raised n dl z u) where
       rw (choose-same n (reversed (lower dl z)) (reversed (lower u (λ k. 0))) (λ i j a b. raised-lower j i b a) (base r c xs) eb)
       (given-same (choose (reversed (lower u (λ k. 0))) (base r c xs)) (placed ds) _ _
       (λ b q.
-      let h = choose-every (λ i. i < n) (reversed (lower u (λ k. 0))) (base r c xs) b eb q in
+      let h = every-in (λ i. i < n) (base r c xs) eb (chosen-in (reversed (lower u (λ k. 0))) (base r c xs) q) in
+      let rest = in-every (λ i. i < n) (without b xs) (λ i k. every-in (λ j. j < n) xs e (without-in b xs k .0)) in
       rw (
         raised-met (best r c xs) b h,
-        raised-steps r c m (without b xs) (set ds b (best r c xs)) (every-filter (λ i. i < n) (λ i. not (eqb i b)) xs e),
+        raised-steps r c m (without b xs) (set ds b (best r c xs)) rest,
       )))
-
--- Differences of naturals as signed numbers.
-pub sub-same : (a b c d : ℕ) → a + d ≡ c + b → subℕ a b ≡ subℕ c d
-sub-same a b c d e =
-    test (ltb a b)
-    (λ t.
-    let l = lt-ltb c d (omega tests) in
-    let q : b - suc a ≡ d - suc c = omega tests in
-    rw (t, l, q))
-    (λ t.
-    let l = le-ltb c d (omega tests) in
-    let q : a - b ≡ c - d = omega tests in
-    rw (t, l, q))
-
-sub-pos : (a b d : ℕ) → a ≡ b + d → pos d ≡ subℕ a b
-sub-pos a b d e =
-    let l = le-ltb a b (omega arith) in
-    let q : a - b ≡ d = omega arith in
-    rw (l, q)
-
-sub-neg : (a b d : ℕ) → b ≡ a + suc d → negsuc d ≡ subℕ a b
-sub-neg a b d e =
-    let l = lt-ltb a b (omega arith) in
-    let q : b - suc a ≡ d = omega arith in
-    rw (l, q)
-
-pub sub-less : (a b d : ℕ) → subℕ a b -ℤ pos d ≡ subℕ a (b + d)
-sub-less a b zero =
-    test (ltb a b)
-    (λ t. rw t (sub-same 0 (suc (b - suc a)) a (b + 0) (omega tests)))
-    (λ t. rw t (sub-pos a (b + 0) (a - b + 0) (omega tests)))
-sub-less a b (suc d) =
-    test (ltb a b)
-    (λ t. rw t (sub-neg a (b + suc d) (suc (b - suc a + d)) (omega tests)))
-    (λ t. rw t (sub-same (a - b) (suc d) a (b + suc d) (omega tests)))
-
--- of two that a machine word holds
-pub sub-minus : (a b : ℕ) → pos a -ℤ pos b ≡ subℕ a b
-sub-minus a zero = sub-pos a 0 (a + 0) (omega arith)
-sub-minus a (suc b) = refl
-
-pub sub-fits : (a b : ℕ) → a < 8589934592 → b < 8589934592 → SFits w64 (subℕ a b)
-sub-fits a b h l = test (ltb a b) (λ t. rw t (sfits-of (omega tests))) (λ t. rw t (sfits-of (omega tests)))
 
 -- One bound more.
 pub raised-more :

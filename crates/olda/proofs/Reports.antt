@@ -1,28 +1,24 @@
 -- The report of an accepted set, from its raised bounds.
 use Prim.Native.Nat.{ℕ, zero, suc, _+_, _<_, _≤_}
-use mathlib.Core.List.{List, [], _∷_}
-use mathlib.Core.Option.{Option, some}
-use mathlib.Core.Path.{_≡_, refl, ap, sym, subst, _∙_}
+use mathlib.Core.List.{List, _∷_}
+use mathlib.Core.Option.{some}
+use mathlib.Core.Path.{_≡_, refl, ap, sym, _∙_}
 use native.Mathlib.Omega.{arith}
 use lib.IntN.{ℤ, subℕ}
 use lib.ListN.{take, replicate}
 use Rattle.lists.specs.Places.{Every, from, places}
 use Rattle.lists.specs.Order.{choose}
+use Rattle.lists.proofs.Members.{in-every, from-in}
 use Rattle.subjobs.specs.Sets.{Subjobs, size, release, execution, deadline, critical, bound, byBound}
-use Rattle.olda.specs.declared.Answer.{Answer}
 use Rattle.olda.specs.declared.Answer.the-variants.{Placed, Nothing}
 use Rattle.olda.specs.Method.{lower, inOrder, steps, method}
 use Rattle.olda.specs.Answers.{report}
-use Rattle.olda.proofs.Inserting.{in-order-below}
-use Rattle.olda.proofs.Raised.{Raised, choose-same, raised-slack, raised-steps, sub-same, sub-less}
-
-from-below : (k n : ℕ) → Every (λ i. i < k + n) (from k n)
-unfolding from
-from-below k zero = tt
-from-below k (suc n) = let z : k + suc n ≡ suc k + n = omega arith in (omega arith, rw z (from-below (suc k) n))
+use Rattle.olda.proofs.AllPlaces.{in-order-below}
+use Rattle.olda.proofs.Raised.{Raised, choose-same, raised-slack, raised-steps}
+use Rattle.subjobs.proofs.Differences.{sub-same, sub-less}
 
 places-below : (n : ℕ) → Every (λ i. i < n) (places n)
-places-below n = let z : n ≡ 0 + n = omega arith in subst (λ (m : ℕ). Every (λ i. i < m) (places n)) (sym z) (from-below 0 n)
+places-below n = in-every (λ i. i < n) (places n) (λ i m. let h = from-in 0 n m in omega arith)
 
 take-replicate : (n m : ℕ) → n ≤ m → take {A = ℕ} n (replicate m 0) ≡ replicate n 0
 take-replicate zero m h = refl

@@ -1,7 +1,7 @@
 -- Tails in the code: the sub-jobs xs that remain are held as their releases and their executions, in xs' order. What is
 -- said of a tail `drop i xs` is read off the same tail of these numbers.
 use Prim.Native.Nat.{ℕ, zero, suc, _+_, _-_, _*_, _<_, _≤_, max}
-use mathlib.Core.Bool.{Bool, true, false, cond}
+use mathlib.Core.Bool.{cond}
 use mathlib.Core.List.{List, [], _∷_, map}
 use mathlib.Core.Path.{_≡_, refl, sym, ap, _∙_}
 use native.Mathlib.Nat.{add-zero}
@@ -16,7 +16,7 @@ use Rattle.olda.specs.Method.{best, base}
 use Rattle.olda.proofs.Mapped.{drop-map, map-length, map-at, every-at}
 
 -- A part from i to the end of a list is the tail from i on.
-pub part-tail : (l : List ℕ) (i : ℕ) → take (length l - i) (drop i l) ≡ drop i l
+part-tail : (l : List ℕ) (i : ℕ) → take (length l - i) (drop i l) ≡ drop i l
 part-tail l i = take-all (length l - i) (drop i l) (simp length-drop (omega arith))
 
 pub weight-at : (f : ℕ → ℕ) (l : List ℕ) (i : ℕ) → i < length l → weight f (drop i l) ≡ f (getD l i 0) + weight f (drop (i + 1) l)
@@ -30,14 +30,14 @@ weight-end f [] (suc i) h = refl
 weight-end f (x ∷ l) zero h = absurd (omega arith)
 weight-end f (x ∷ l) (suc i) h = weight-end f l i (omega arith)
 
-pub weight-drop : (f : ℕ → ℕ) (l : List ℕ) (i : ℕ) → weight f (drop i l) ≤ weight f l
+weight-drop : (f : ℕ → ℕ) (l : List ℕ) (i : ℕ) → weight f (drop i l) ≤ weight f l
 unfolding weight
 weight-drop f [] zero = omega arith
 weight-drop f [] (suc i) = omega arith
 weight-drop f (x ∷ l) zero = omega arith
 weight-drop f (x ∷ l) (suc i) = let ih = weight-drop f l i in omega arith
 
-pub weight-map : (f : ℕ → ℕ) (xs : List ℕ) → weight (λ c. c) (map f xs) ≡ weight f xs
+weight-map : (f : ℕ → ℕ) (xs : List ℕ) → weight (λ c. c) (map f xs) ≡ weight f xs
 unfolding weight
 weight-map f [] = refl
 weight-map f (x ∷ xs) = let ih = weight-map f xs in omega arith
@@ -54,7 +54,7 @@ told-part rs cs i = rw (part-tail rs i, part-tail cs i, getD-drop i rs 0 0, add-
 abbrev pub Execution : ℕ → Type 0
 Execution c = (1 ≤ c) × (c ≤ 1_000_000)
 
-pub weight-most : (cs : List ℕ) → Every Execution cs → weight (λ c. c) cs ≤ 1_000_000 * length cs
+weight-most : (cs : List ℕ) → Every Execution cs → weight (λ c. c) cs ≤ 1_000_000 * length cs
 unfolding weight
 weight-most [] e = omega arith
 weight-most (c ∷ cs) e = let ih = weight-most cs (e .1) in omega (arith, e .0)

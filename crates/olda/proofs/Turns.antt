@@ -1,10 +1,10 @@
 -- One turn of the method, with the sub-jobs that remain held as three lists of numbers: their places xs, their releases
 -- and their executions.
-use Prim.Native.Nat.{ℕ, zero, suc, _+_, _-_, _*_, _<_, _≤_}
-use mathlib.Core.Bool.{Bool, cond}
-use mathlib.Core.List.{List, [], _∷_, map}
-use mathlib.Core.Option.{Option, some}
-use mathlib.Core.Path.{_≡_, refl, sym, ap, _∙_}
+use Prim.Native.Nat.{ℕ, zero, suc, _+_, _-_, _<_, _≤_}
+use mathlib.Core.Bool.{Bool}
+use mathlib.Core.List.{List, [], _∷_}
+use mathlib.Core.Option.{some}
+use mathlib.Core.Path.{_≡_, _∙_}
 use native.Mathlib.Nat.{sub-zero}
 use native.Mathlib.Omega.{arith}
 use borrow.Author.Tests.{le-leb, lt-leb}
@@ -12,7 +12,7 @@ use lib.ListN.{length, getD, take, drop, set}
 use lib.Seq.{take-nil, getD-take, getD-drop}
 use Rattle.lists.specs.Places.{Every, Nodup, without}
 use Rattle.lists.specs.Order.{reversed, choose}
-use Rattle.olda.specs.Method.{Outcome, stuck, best, base, steps}
+use Rattle.olda.specs.Method.{stuck, best, base, steps}
 use Rattle.olda.proofs.TailParts.{Execution}
 use Rattle.olda.proofs.Shifts.{rest, every-rest, nodup-rest, without-at}
 

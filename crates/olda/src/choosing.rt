@@ -1,8 +1,8 @@
 // The base sub-job: the one of the base subset with the greatest upper bound. Bounds are held raised by 1,000,000,000,
 // so that none is negative.
-ghost use Prim.Native.Nat.{ℕ, _<_};
+ghost use Prim.Native.Nat.{_<_};
 ghost use mathlib.Core.Path.{_≡_};
-ghost use mathlib.Core.Option.{Option, some};
+ghost use mathlib.Core.Option.{some};
 ghost use lib.ListN.{length, getD};
 ghost use Rattle.lists.specs.Places.{Every};
 ghost use Rattle.lists.specs.Order.{reversed, choose};

@@ -1,9 +1,9 @@
 // The steps of the method: as long as a sub-job is left, the base sub-job gets the completion and leaves.
 ghost use Prim.Native.Nat.{ℕ, suc, _+_, _-_, _<_, _≤_};
 ghost use mathlib.Core.Path.{_≡_};
-ghost use mathlib.Core.List.{List, _++_, map};
-ghost use lib.ListN.{length, getD, take, drop, replicate};
-ghost use Rattle.lists.specs.Places.{weight, Every, Nodup};
+ghost use mathlib.Core.List.{_++_, map};
+ghost use lib.ListN.{length, getD, take, drop};
+ghost use Rattle.lists.specs.Places.{Every, Nodup};
 ghost use Rattle.olda.specs.Method.{Outcome, placed, stuck, lower, steps, inOrder};
 use crate::choosing::base_job;
 use crate::choosing::index;

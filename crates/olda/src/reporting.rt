@@ -1,7 +1,7 @@
 // Upper bounds and what is reported of an accepted set.
 ghost use Prim.Native.Nat.{ℕ, _+_, _<_, _≤_};
 ghost use mathlib.Core.Path.{_≡_};
-ghost use mathlib.Core.Option.{Option, some};
+ghost use mathlib.Core.Option.{some};
 ghost use lib.IntN.{subℕ};
 ghost use lib.ListN.{length, getD};
 ghost use Rattle.lists.specs.Places.{places};
@@ -31,6 +31,7 @@ fn difference(a: u32, b: u64) -> i64
     (a as i64) - (b as i64)
 }
 
+// A number widened, so that sums of two fit.
 fn wide(x: u32) -> u64
     ensures { λ r. ⌜ (r ≡ x) × (r < 4294967296) ⌝ }
 {

@@ -28,7 +28,7 @@ fn completion(releases: &[u32], executions: &[u32]) -> u32
 }
 
 // The tail of the greatest completion, of several the latest: the base subset. It holds for whatever sub-jobs xs have
-// these releases and executions. Callers know it by `best` and `base` alone.
+// these releases and executions. Each tail is added afresh; callers know the search by `best` and `base` alone.
 pub(crate) fn base_tail(releases: &[u32], executions: &[u32]) -> Tail
     requires { ⌜ (0 < length (now releases)) × (length (now releases) ≤ 128) × (length (now executions) ≡ length (now releases)) × Every (λ r. r ≤ 1_000_000_000) (now releases) × Every (λ c. (1 ≤ c) × (c ≤ 1_000_000)) (now executions) ⌝ }
     ensures { λ t. ⌜ (t .start < length (now (releases .entry))) × (t .completion ≤ 1_128_000_000) × ((r c : ℕ → ℕ) (xs : List ℕ) → map r xs ≡ now (releases .entry) → map c xs ≡ now (executions .entry) → (t .completion ≡ best r c xs) × (drop (t .start) xs ≡ base r c xs)) ⌝ }

@@ -109,6 +109,9 @@ unfolding answer
 refused-no s n judged.Passed e a = refl
 refused-no s n (judged.Refused r) e a = clash (rw e at a) refl
 
+pub accepted-passed : (s : Subjobs) (n : ℕ) → accepted (answer s n) ≡ true → judgement s (eqb n (size s)) ≡ judged.Passed
+accepted-passed s n a = refused-no s n (judgement s (eqb n (size s))) refl a
+
 -- An answer that is no refusal was given to a set that passed refusals 1 to 4, and the rules gave it these deadlines.
 taken :
     (s : Subjobs) (out : List ℕ)
@@ -117,11 +120,17 @@ taken :
     × Accepted s (localDeadline s out)
     × (answer s (length out) ≡ report s (localDeadline s out))
 taken s out a =
-    let e : judgement s (eqb (length out) (size s)) ≡ judged.Passed =
-    refused-no s (length out) (judgement s (eqb (length out) (size s))) refl a
-    in
+    let e = accepted-passed s (length out) a in
     split (answers-are-the-rules s out e)
     (λ w. (executions s (eqb (length out) (size s)) e, w .0, w .2))
+    (λ w. clash a (ap accepted (w .3)))
+
+-- .. and the result list is what the method placed.
+pub accepted-placed : (s : Subjobs) (out : List ℕ) → accepted (answer s (length out)) ≡ true → method s ≡ placed (results s out)
+accepted-placed s out a =
+    let e = accepted-passed s (length out) a in
+    split (answers-are-the-rules s out e)
+    (λ w. method-placed s (executions s (eqb (length out) (size s)) e) (results s out) .1 (w .1, w .0))
     (λ w. clash a (ap accepted (w .3)))
 
 pub deadlines-meet-six-and-seven : DeadlinesMeetSixAndSeven

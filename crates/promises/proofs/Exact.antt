@@ -11,7 +11,7 @@ use lib.ListN.{length, getD}
 use lib.Seq.{ext-getD}
 use Rattle.lists.specs.Places.{places, InOrder}
 use Rattle.lists.proofs.Cases.{test, tests}
-use Rattle.lists.proofs.Members.{nodup-from, in-without, inorder-filter, from-in}
+use Rattle.lists.proofs.Members.{nodup-from, in-without, inorder-filter, from-in, places-in, in-places}
 use Rattle.lists.proofs.Choice.{Order}
 use Rattle.subjobs.specs.declared.Judgement.the-variants.{Passed}
 use Rattle.subjobs.specs.Sets.{Subjobs, size, job, subtask, release, execution, deadline, critical}
@@ -28,9 +28,10 @@ use Rattle.olda.proofs.Accepted.{accepted-falls}
 use Rattle.edf.specs.Runs.{sooner, owed, finish}
 use Rattle.edf.specs.Answers as edf
 use Rattle.edf.proofs.Service.{served, served-is-active, served-most}
-use Rattle.edf.proofs.Finishes.{finish-by, run-finish, run-length}
-use Rattle.edf.proofs.Keeps.{sooner-order, sooner-by, below, small}
-use Rattle.edf.proofs.Keeps as core
+use Rattle.edf.proofs.Finishes.{finish-by, run-length}
+use Rattle.edf.proofs.Turns.{below}
+use Rattle.edf.proofs.Ticks.{finish-at}
+use Rattle.edf.proofs.Keeps.{sooner-order, sooner-by}
 use Rattle.edf.proofs.Alone.{served-alike, sooner-total}
 use Rattle.promises.proofs.Peel.{Peel, bare, peel, Ready, exact}
 
@@ -80,21 +81,21 @@ module _
   served-places : (t i : ℕ) → List·Memᴰ i (places n) → served r c lt (inOrder r n) t i ≡ served r (owed c a) lt (places n) t i
   served-places =
       served-alike r c (owed c a) lt ord (inOrder r n) (places n) (ready .total) (ready .small)
-      (λ j q. below-inOrder r n j (below n j q))
-      (λ j q. omega (arith, whole j (below n j q)))
-      (λ t b e. inl (core.placed n b (inOrder-below r n (served-is-active r c lt (inOrder r n) t e .0))))
+      (λ j q. below-inOrder r n j (places-in n j q))
+      (λ j q. omega (arith, whole j (places-in n j q)))
+      (λ t b e. inl (in-places n b (inOrder-below r n (served-is-active r c lt (inOrder r n) t e .0))))
 
   pub finish-peeled :
       (d : ℕ → ℕ) → Peel r c lt d (inOrder r n) → (i : ℕ) → i < n → finish r (owed c a) lt (places n) i ≡ d i
   finish-peeled d p i h =
-      let m = core.placed n i h in
+      let m = in-places n i h in
       let o = ones i h in
       let w = whole i h in
       let f = finish r (owed c a) lt (places n) i in
-      let over = finish-by r (owed c a) lt (places n) (small n few) ord (nodup-from 0 n) i m (omega arith) in
+      let over = finish-by r (owed c a) lt (places n) (below n few) (nodup-from 0 n) i m (omega arith) in
       let ends = exact r c lt d ord ready p i (below-inOrder r n i h) in
       let same : (t : ℕ) → served r c lt (inOrder r n) t i ≡ served r (owed c a) lt (places n) t i = λ t. served-places t i m in
-      let most = served-most r (owed c a) lt (places n) (small n few) (d i) i in
+      let most = served-most r (owed c a) lt (places n) (below n few) (d i) i in
       omega (
         arith,
         over (d i) .1 (omega (arith, same (d i), ends (d i) .0 (omega arith))),
@@ -140,7 +141,7 @@ exactly-on-the-deadline s o ds asks passed accepted whole =
     ext-getD 0 (edf.run s ds asks .finishes) ds (len ∙ sym (placed-length s o ds passed accepted))
     (λ i h.
     let k : i < size s = omega arith in
-    run-finish (release s) (owed (execution s) a) lt (size s) i k
+    finish-at s ds asks i k
     ∙ finish-peeled (release s) (execution s) a lt (size s) (sooner-order d (job s) (subtask s)) (f .few)
     (λ j b. f .ranges j b .some)
     (sooner-total (job s) (subtask s) d (size s) (f .pairs)) whole d (placed-peeled s o ds passed accepted) i k)

@@ -1,13 +1,14 @@
 -- The bridge between sums of naturals and signed numbers: a difference of naturals is compared by cross sums.
-use Prim.Native.Nat.{ℕ, zero, suc, _+_, _-_, _≤_, _<_}
+use Prim.Native.Nat.{ℕ, suc, _+_, _-_, _<_}
 use mathlib.Core.Bool.{not}
 use mathlib.Core.Path.{_≡_, refl, sym, ap, _∙_}
 use native.Mathlib.Omega.{arith}
 use borrow.Author.Tests.{ltb-true, leb-true, leb-false, lt-ltb, le-ltb}
 use lib.Dec.{ltb, leb}
-use lib.IntN.{ℤ, pos, negsuc, subℕ, _-ℤ_}
+use lib.IntN.{ℤ, pos, negsuc, subℕ}
 use lib.Signed.{leZ, ltZ}
 use Rattle.lists.proofs.Cases.{test, tests, tested}
+use Rattle.subjobs.proofs.Differences.{sub-pos, sub-less}
 use Rattle.subjobs.specs.Sets.{bound, slack, byBound}
 use mathlib.Core.Logic.{inl, inr}
 use Rattle.lists.proofs.Choice.{Order}
@@ -47,35 +48,6 @@ signed-le : (a b c d : ℕ) → leZ (subℕ a b) (subℕ c d) ≡ leb (a + d) (c
 signed-le a b c d =
     signed-not (subℕ a b) (subℕ c d) ∙ ap not (signed-less c d a b) ∙ sym (not-less (a + d) (c + b))
 
-sub-neg : (a b : ℕ) → a < b → subℕ a b ≡ negsuc (b - suc a)
-sub-neg a b h = rw (lt-ltb a b h)
-
-sub-pos : (a b : ℕ) → b ≤ a → subℕ a b ≡ pos (a - b)
-sub-pos a b h = rw (le-ltb a b h)
-
--- A natural is a difference ..
-pos-sub : (m : ℕ) → pos m ≡ subℕ m 0
-pos-sub m = sym (sub-pos m 0 (omega arith) ∙ ap pos (omega arith))
-
--- .. and what is taken off a difference goes to what it takes off.
-sub-sub : (a b c : ℕ) → subℕ a b -ℤ pos c ≡ subℕ a (b + c)
-sub-sub a b c = test (ltb a b) (λ h. below c (omega tests)) (λ h. above c (omega tests))
-  where
-    below : (c : ℕ) → a < b → subℕ a b -ℤ pos c ≡ subℕ a (b + c)
-    below zero h =
-        rw (sub-neg a b h, sub-neg a (b + 0) (omega arith))
-        (sub-neg 0 (suc (b - suc a)) (omega arith) ∙ ap negsuc (omega arith))
-    below (suc k) h = rw (sub-neg a b h, sub-neg a (b + suc k) (omega arith)) (ap negsuc (omega arith))
-
-    above : (c : ℕ) → b ≤ a → subℕ a b -ℤ pos c ≡ subℕ a (b + c)
-    above zero h = rw (sub-pos a b h, sub-pos a (b + 0) (omega arith)) (ap pos (omega arith))
-    above (suc k) h =
-        rw (sub-pos a b h)
-        (test (ltb (a - b) (suc k))
-        (λ q.
-        sub-neg (a - b) (suc k) (omega tests) ∙ ap negsuc (omega arith) ∙ sym (sub-neg a (b + suc k) (omega tests)))
-        (λ q. sub-pos (a - b) (suc k) (omega tests) ∙ ap pos (omega arith) ∙ sym (sub-pos a (b + suc k) (omega tests))))
-
 module _ (dl z : ℕ → ℕ) where
   pub bound-less : (i j : ℕ) → byBound dl z i j ≡ ltZ (bound dl z i) (bound dl z j)
   bound-less i j = sym (signed-less (dl i) (z i) (dl j) (z j))
@@ -83,15 +55,15 @@ module _ (dl z : ℕ → ℕ) where
   pub bound-met : (m i : ℕ) → leb (m + z i) (dl i) ≡ leZ (pos m) (bound dl z i)
   bound-met m i =
       sym
-      (ap (λ (x : ℤ). leZ x (bound dl z i)) (pos-sub m)
+      (ap (λ (x : ℤ). leZ x (bound dl z i)) (sub-pos m 0 m (omega arith))
       ∙ signed-le m 0 (dl i) (z i)
       ∙ ap (leb (m + z i)) (omega arith))
 
   pub slack-less : (d : ℕ → ℕ) (i j : ℕ) → byBound dl (λ k. z k + d k) i j ≡ ltZ (slack dl z d i) (slack dl z d j)
   slack-less d i j =
       sym
-      (ap (λ (x : ℤ). ltZ x (slack dl z d j)) (sub-sub (dl i) (z i) (d i))
-      ∙ ap (ltZ (subℕ (dl i) (z i + d i))) (sub-sub (dl j) (z j) (d j))
+      (ap (λ (x : ℤ). ltZ x (slack dl z d j)) (sub-less (dl i) (z i) (d i))
+      ∙ ap (ltZ (subℕ (dl i) (z i + d i))) (sub-less (dl j) (z j) (d j))
       ∙ signed-less (dl i) (z i + d i) (dl j) (z j + d j))
 
 -- Upper bounds are an order.

@@ -2,4 +2,5 @@ pub mod Searching
 pub mod Lengths
 pub mod Fit
 pub mod Reported
+pub mod Differences
 pub mod Bounds

@@ -28,7 +28,7 @@ within-search J m h zero i b = tt
 within-search J m h (suc n) i b =
     within-or-else m (J i) (refusalFrom J n (suc i)) (h i (omega arith)) (within-search J m h n (suc i) (omega arith))
 
-within-more : (m n : ℕ) (j : Judgement) → m ≤ n → Within m j → Within n j
+pub within-more : (m n : ℕ) (j : Judgement) → m ≤ n → Within m j → Within n j
 within-more m n Passed b h = tt
 within-more m n (Refused r) b h = omega arith
 

@@ -11,7 +11,7 @@ use Rattle.lists.specs.Order.{reversed, ahead}
 use Rattle.lists.proofs.Cases.{split}
 use Rattle.olda.specs.Method.{lower}
 use Rattle.olda.proofs.Mapped.{every-at}
-use Rattle.olda.proofs.Chosen.{choose-first, ahead-step, ahead-end}
+use Rattle.olda.proofs.Chosen.{choose-first, ahead-yes, ahead-no, ahead-end}
 use Rattle.olda.proofs.choosing.base_job.Statement.{statement}
 use Rattle.olda.proofs.choosing.base_job.Tie as tie
 
@@ -72,21 +72,25 @@ loop-less c = search needs
 
 loop-again : tie.Need-loop-again Inv-loop μ-loop
 loop-again c =
-    let L = c .before .before .before .before .before .before .before .loop in
-    let a = c .before .before .before .before .before .before .before .before .before .before .args in
-    let step = sym (ahead-step (Order (a .bounds .now)) (a .order .now) (getD (a .order .now) (L .at) 0) (L .i) (c .before .before .before .before .before .before .loop-test .taken)) ∙ L .inv .3 in
+    let t = c .before in
+    let l = t .before .before .before .before .before .before in
+    let L = l .loop in
+    let a = l .before .before .before .args in
+    let lt = Order (a .bounds .now) in
+    let xs = a .order .now in
+    let p = getD xs (L .at) 0 in
+    let h = t .before .before .before .before .before .loop-test .taken in
     split (c .if1 .came)
-    (λ w. (search needs, rw (w .1) (search needs), search needs, rw (w .1) (rw (tested (c .before) ∙ w .0 .taken) at step)))
-    (λ w. (search needs, rw (w .1) (search needs), search needs, rw (w .1) (rw (tested (c .before) ∙ w .0 .left) at step)))
+    (λ w. (search needs, rw (w .1) (search needs), search needs, rw (w .1) (ahead-yes lt xs p (L .i) _ h (L .inv .3) (tested t ∙ w .0 .taken))))
+    (λ w. (search needs, rw (w .1) (search needs), search needs, rw (w .1) (ahead-no lt xs p (L .i) _ h (L .inv .3) (tested t ∙ w .0 .left))))
 
 returns : tie.Need-returns Inv-loop μ-loop
 returns c =
     let L = c .before .loop in
-    let a = c .before .before .before .before in (
-      search needs,
-      choose-first (Order (a .args .bounds .now)) (a .args .order .now) (a .pre .0)
-          ∙ ap some (sym (L .inv .3) ∙ ahead-end (Order (a .args .bounds .now)) (a .args .order .now) _ (L .i) (c .loop-test .left)),
-    )
+    let start = c .before .before .before .before in
+    let lt = Order (start .args .bounds .now) in
+    let xs = start .args .order .now in
+    (search needs, choose-first lt xs (start .pre .0) ∙ ap some (ahead-end lt xs (getD xs (L .at) 0) (L .i) _ (c .loop-test .left) (L .inv .3)))
 
 pub base-job-spec : {M : Type 1} → statement M
 base-job-spec =

@@ -1,21 +1,19 @@
 -- `fitting::assign_fit` meets its contract: what the method told is the answer, and the result list is written at acceptance.
-use Prim.Native.Nat.{ℕ, _≤_, _<_}
+use Prim.Native.Nat.{ℕ, _<_}
 use mathlib.Core.List.{List}
-use mathlib.Core.Path.{_≡_, refl, ap, sym, _∙_}
-use native.Mathlib.Omega.{arith}
-use borrow.Author.Needs.{sfits-of}
+use mathlib.Core.Path.{refl, ap, sym, _∙_}
+use borrow.Author.Needs.{sfits-of, needs}
 use lib.IntN.{ℤ}
-use lib.ListN.{length, getD, take}
+use lib.ListN.{length, getD}
 use mir.Facts.{toZ-ofZ}
 use mir.Syntax.{w64}
 use Rattle.subjobs.specs.declared.Reason.the-variants.{Late}
 use Rattle.subjobs.specs.Sets.{subjobs}
 use Rattle.olda.specs.declared.Answer.the-variants.{Refused}
 use Rattle.olda.specs.Method.{method}
-use Rattle.olda.specs.Answers.{report, outcome, written}
+use Rattle.olda.specs.Answers.{report}
 use Rattle.olda.proofs.Raised.{Raised}
 use Rattle.olda.proofs.Reports.{method-raised, bound-raised}
-use borrow.Author.Needs.{needs}
 use Rattle.olda.proofs.fitting.assign_fit.Statement.{statement}
 use Rattle.olda.proofs.fitting.assign_fit.Tie as tie
 
@@ -57,7 +55,12 @@ report-requires c κs = search needs
 enum-known-placing : tie.Need-enum-known-placing
 enum-known-placing c = search needs
 
-inside : (c : tie.After-placing) → c .placing .given .0 .0 < length (c .before .before .before .before .before .before .before .before .before .before .before .before .before .before .args .releases .now)
+-- A late sub-job is one of the set.
+inside :
+    (c : tie.After-placing)
+    → let m = c .before .before .before in
+    let q = m .before .before .before .before in
+    c .placing .given .0 .0 < length (q .before .before .before .before .before .before .before .args .releases .now)
 inside c = c .before .before .before .method .ensures _ refl .1 _ _ (c .placing .given .1) .0
 
 mul-signed : tie.Need-mul-signed
@@ -81,28 +84,35 @@ raised c = λ i h. c .raise .ensures i (rw (c .before .before .before .before .b
 
 returns : tie.Need-returns
 returns c =
-    let a = c .before .before .before .before .before .before .before .before .before .before .before .before .before .before .before .before .before .before .before .before .before .before .args in
-    let p = c .before .before .before .before .before .before .before .before .before .before .before .before .before .before .before .before .before .before .before .before .before .before .pre in
+    let copied = c .before .before .before .before .before in
+    let told = copied .before .before .before in
+    let m = told .before .before .before in
+    let q = m .before .before .before .before in
+    let start = q .before .before .before .before .before .before .before in
+    let a = start .args in
     let n = length (a .releases .now) in
-    let u : ℕ → ℕ = λ i. getD (c .before .before .before .before .before .before .before .before .before .before .before .before .before .before .before .raise .last .1 .1 .0) i 0 in
-    let r = raised (c .before .before .before .before .before .before .before .before .before .before .before .before .before .before .before) in
-    let o = rw (p .4) at (c .before .before .before .before .before .copy .ensures) in
+    let u : ℕ → ℕ = λ i. getD (q .raise .last .1 .1 .0) i 0 in
+    let r = raised q in
+    let o = rw (start .pre .4) at (copied .copy .ensures) in
     λ js ks e.
     let s = subjobs js ks (a .releases .now) (a .executions .now) (a .deadlines .now) (a .criticals .now) in
-    rw (c .before .before .before .before .before .before .before .before .before .before .before .method .ensures (method s) (method-raised s n e u r (p .0)) .0 (c .before .before .before .before .before .before .before .before .enum-told .given .1))
+    rw (m .method .ensures (method s) (method-raised s n e u r (start .pre .0)) .0 (told .enum-told .given .1))
     (c .report .ensures s (search needs) (λ i h. r i (rw (← e) h)) ∙ ap (λ (l : List ℕ). report s (λ i. getD l i 0)) o, o)
 
 returns-2 : tie.Need-returns-2
 returns-2 c =
-    let a = c .before .before .before .before .before .before .before .before .before .before .before .before .before .before .before .before .args in
-    let p = c .before .before .before .before .before .before .before .before .before .before .before .before .before .before .before .before .pre in
+    let found = c .before .before in
+    let m = found .before .before .before in
+    let q = m .before .before .before .before in
+    let start = q .before .before .before .before .before .before .before in
+    let a = start .args in
     let n = length (a .releases .now) in
-    let u : ℕ → ℕ = λ i. getD (c .before .before .before .before .before .before .before .before .before .raise .last .1 .1 .0) i 0 in
-    let r = raised (c .before .before .before .before .before .before .before .before .before) in
-    let g = c .before .before .placing .given in
+    let u : ℕ → ℕ = λ i. getD (q .raise .last .1 .1 .0) i 0 in
+    let r = raised q in
+    let g = found .placing .given in
     λ js ks e.
     let s = subjobs js ks (a .releases .now) (a .executions .now) (a .deadlines .now) (a .criticals .now) in
-    let t = c .before .before .before .before .before .method .ensures (method s) (method-raised s n e u r (p .0)) .1 (g .0 .0) (g .0 .1 .0) (g .1) in
+    let t = m .method .ensures (method s) (method-raised s n e u r (start .pre .0)) .1 (g .0 .0) (g .0 .1 .0) (g .1) in
     rw (t .1) (
       ap (λ (z : ℤ). Refused (Late (g .0 .0) (g .0 .1 .0) z))
           (toZ-ofZ {w = w64} (sfits-of (c .signed .ok)) ∙ c .signed .ensures ∙ sym (bound-raised s n e u (g .0 .0) r (t .0))),

@@ -1,11 +1,11 @@
 -- `placing::method` meets its contract: the steps start from all places in release order.
 use Prim.Native.Nat.{ℕ, _≤_, _<_}
-use mathlib.Core.Path.{_≡_, refl}
 use lib.ListN.{length, getD}
 use Rattle.olda.specs.Method.{inOrder}
 use Rattle.olda.proofs.Mapped.{every-more, every-map}
 use Rattle.olda.proofs.TailParts.{Execution}
-use Rattle.olda.proofs.Inserting.{in-order-below, in-order-once}
+use Rattle.olda.proofs.AllPlaces.{in-order-below}
+use Rattle.olda.proofs.ReleaseOrder.{nodup-inOrder}
 use borrow.Author.Needs.{needs}
 use Rattle.olda.proofs.placing.method.Statement.{statement}
 use Rattle.olda.proofs.placing.method.Tie as tie
@@ -33,12 +33,15 @@ slice-aggregate-place-all-3 c = search needs
 
 place-all-requires : tie.Need-place-all-requires
 place-all-requires c κs =
-    let a = c .before .before .before .before .before .before .before .before .before .before .before .before .before .before .before in
-    let e = c .before .before .before .before .before .before .before .in-order .ensures in
-    let n = length (a .args .releases .now) in
-    let r : ℕ → ℕ = λ i. getD (a .args .releases .now) i 0 in
-    let x : ℕ → ℕ = λ i. getD (a .args .executions .now) i 0 in
-    let below = in-order-below r n in (
+    let o = c .before .before .before .before .before .before .before in
+    let start = o .before .before .before .before .before .before .before .before in
+    let e = o .in-order .ensures in
+    let n = length (start .args .releases .now) in
+    let r : ℕ → ℕ = λ i. getD (start .args .releases .now) i 0 in
+    let x : ℕ → ℕ = λ i. getD (start .args .executions .now) i 0 in
+    let xs = inOrder r n in
+    let below = in-order-below r n in
+    let ranges = start .pre .4 in (
       search needs,
       search needs,
       search needs,
@@ -46,9 +49,9 @@ place-all-requires c κs =
       search needs,
       search needs,
       rw (e .0) below,
-      rw (e .0) (in-order-once r n),
-      rw (e .1) (every-map (λ p. p ≤ 1_000_000_000) r (inOrder r n) (every-more (λ p. p < n) (λ p. r p ≤ 1_000_000_000) (λ p h. a .pre .4 p h .0) (inOrder r n) below)),
-      rw (e .2) (every-map Execution x (inOrder r n) (every-more (λ p. p < n) (λ p. Execution (x p)) (λ p h. (a .pre .4 p h .1, a .pre .4 p h .2)) (inOrder r n) below)),
+      rw (e .0) (nodup-inOrder r n),
+      rw (e .1) (every-map (λ p. p ≤ 1_000_000_000) r xs (every-more (λ p. p < n) (λ p. r p ≤ 1_000_000_000) (λ p h. ranges p h .0) xs below)),
+      rw (e .2) (every-map Execution x xs (every-more (λ p. p < n) (λ p. Execution (x p)) (λ p h. (ranges p h .1, ranges p h .2)) xs below)),
     )
 
 same-length : tie.Need-same-length
@@ -56,10 +59,12 @@ same-length c = search needs
 
 returns : tie.Need-returns
 returns c =
-    let a = c .before .before .before .before .before .before .before .before .before .before .before .before .before .before .before .before .before .before .before .before .before .args in
-    let e = c .before .before .before .before .before .before .before .before .before .before .before .before .before .in-order .ensures in
+    let p = c .before .before .before .before .before in
+    let o = p .before .before .before .before .before .before .before .before in
+    let a = o .before .before .before .before .before .before .before .before .args in
+    let e = o .in-order .ensures in
     λ w q.
-    c .before .before .before .before .before .place-all .ensures (λ i. getD (a .releases .now) i 0) (λ i. getD (a .executions .now) i 0) w (rw (e .0, e .1)) (rw (e .0, e .2)) (rw (e .0) q)
+    p .place-all .ensures (λ i. getD (a .releases .now) i 0) (λ i. getD (a .executions .now) i 0) w (rw (e .0, e .1)) (rw (e .0, e .2)) (rw (e .0) q)
 
 pub method-spec : {M : Type 1} → statement M
 method-spec =

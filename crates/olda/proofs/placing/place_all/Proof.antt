@@ -6,7 +6,7 @@ use mathlib.Core.List.{List, map}
 use mathlib.Core.Option.{some}
 use mathlib.Core.Path.{_≡_, refl, ap, sym, _∙_}
 use native.Mathlib.Omega.{arith}
-use lib.ListN.{length, getD, take, drop, length-take, length-drop, length-set}
+use lib.ListN.{length, getD, take, drop, length-take, length-drop}
 use lib.Seq.{length-take-le, getD-take, take-set-lt}
 use Rattle.lists.specs.Order.{reversed, choose}
 use Rattle.olda.specs.declared.placing.Placing.the-variants.{Placed, Stuck}
@@ -121,11 +121,13 @@ index-requires c κs = search needs
 
 inside : (c : tie.After-index Inv-loop μ-loop) → c .index .result < c .before .before .before .before .before .before .before .before .before .before .before .before .before .before .before .args .n
 inside c =
-    let L = c .before .before .before .before .before .before .before .before .before .loop in
-    let n = c .before .before .before .before .before .before .before .before .before .before .before .before .before .before .before .args .n in
-    let at = c .before .before .before .before .before .base-tail .result .start + c .before .before .base-job .result in
-    let w = within (c .before .before) in
-    let l = length-take-le (L .left) (L .order) (omega arith) in
+    let k = c .before .before in
+    let l = k .before .before .before .before .before .before .before in
+    let L = l .loop in
+    let n = l .before .before .before .before .before .before .args .n in
+    let at = k .before .before .before .base-tail .result .start + k .base-job .result in
+    let w = within k in
+    let long = length-take-le (L .left) (L .order) (omega arith) in
     rw (c .index .ensures, ← getD-take (L .left) (L .order) at 0 w)
     (every-at (λ p. p < n) (take (L .left) (L .order)) at (omega arith) (L .inv .5 .places))
 
@@ -137,16 +139,18 @@ chosen :
     → map c′ (take (L .left) (L .order)) ≡ take (L .left) (L .exe)
     → choose (reversed (Lower (c .before .before .before .before .before .before .before .before .before .before .before .before .before .before .before .args .bounds .now))) (base r c′ (take (L .left) (L .order))) ≡ some (c .index .result)
 chosen c r c′ er ec =
-    let L = c .before .before .before .before .before .before .before .before .before .loop in
-    let k = c .before .before .before .before .before .base-tail .result .start in
-    let w = within (c .before .before) in
+    let k = c .before .before in
+    let t = k .before .before .before .base-tail in
+    let L = k .before .before .before .before .before .before .before .loop in
+    let start = t .result .start in
+    let w = within k in
     rw (
-      ← c .before .before .before .before .before .base-tail .ensures .2 r c′ (take (L .left) (L .order)) er ec .1,
-      ← part-within (L .order) (L .left) k (omega arith),
+      ← t .ensures .2 r c′ (take (L .left) (L .order)) er ec .1,
+      ← part-within (L .order) (L .left) start (omega arith),
       c .index .ensures,
-      ← part-at (L .order) (L .left) k (c .before .before .base-job .result) (omega arith),
+      ← part-at (L .order) (L .left) start (k .base-job .result) (omega arith),
     )
-    (c .before .before .base-job .ensures .1)
+    (k .base-job .ensures .1)
 
 mul-if1 : tie.Need-mul-if1 Inv-loop μ-loop
 mul-if1 c = let w = inside c in search needs
@@ -182,12 +186,20 @@ stuck-told {n} {p} {m} h e = (
 returns : tie.Need-returns Inv-loop μ-loop
 returns c =
     let i = c .before .before in
-    let L = i .before .before .before .before .before .before .before .before .before .loop in
-    let a = i .before .before .before .before .before .before .before .before .before .before .before .before .before .before .before .args in
+    let t = i .before .before .before .before .before .base-tail in
+    let l = i .before .before .before .before .before .before .before .before .before in
+    let L = l .loop in
+    let a = l .before .before .before .before .before .before .args in
+    let u : ℕ → ℕ = λ j. getD (a .bounds .now) j 0 in
+    let xs = take (L .left) (L .order) in
+    let ds = take (a .n) (L .local) in
     λ r c′ w er ec q.
     let s = L .inv .6 r c′ er ec in
     stuck-told (inside i)
-    (sym q ∙ sym (s .2) ∙ turn-late r c′ (Lower (a .bounds .now)) (λ j. getD (a .bounds .now) j 0) (λ j. 1_000_000_000) (L .left) (L .left - 1) (take (L .left) (L .order)) (take (a .n) (L .local)) (i .index .result) (i .before .before .before .before .before .base-tail .result .completion) (omega arith) (chosen i r c′ (s .0) (s .1)) (i .before .before .before .before .before .base-tail .ensures .2 r c′ (take (L .left) (L .order)) (s .0) (s .1) .0) (c .if1 .taken))
+    (sym q
+    ∙ sym (s .2)
+    ∙ turn-late r c′ (Lower (a .bounds .now)) u (λ j. 1_000_000_000) (L .left) (L .left - 1) xs ds (i .index .result) (t .result .completion)
+    (omega arith) (chosen i r c′ (s .0) (s .1)) (t .ensures .2 r c′ xs (s .0) (s .1) .0) (c .if1 .taken))
 
 mul-local : tie.Need-mul-local Inv-loop μ-loop
 mul-local c = let w = inside (c .before .before) in search needs
@@ -206,25 +218,38 @@ loop-less c = search needs
 
 loop-again : tie.Need-loop-again Inv-loop μ-loop
 loop-again c =
-    let i = c .before .before .before .before .before .before .before .before .before .before .before .before in
-    let L = i .before .before .before .before .before .before .before .before .before .loop in
-    let a = i .before .before .before .before .before .before .before .before .before .before .before .before .before .before .before .args in
-    let t = c .before .before .before .before .before .before .take-out .ensures in
-    let at = i .before .before .before .before .before .base-tail .result .start + i .before .before .base-job .result in
-    let w = within (i .before .before) in
-    let l = length-take-le (L .left) (L .order) (omega arith) in (
+    let out = c .before .before .before .before .before .before in
+    let tested = out .before .before .before .before in
+    let i = tested .before .before in
+    let k = i .before .before in
+    let t = k .before .before .before .base-tail in
+    let l = k .before .before .before .before .before .before .before in
+    let L = l .loop in
+    let start = l .before .before .before .before .before .before in
+    let a = start .args in
+    let u : ℕ → ℕ = λ j. getD (a .bounds .now) j 0 in
+    let xs = take (L .left) (L .order) in
+    let ds = take (a .n) (L .local) in
+    let e = out .take-out .ensures in
+    let at = t .result .start + k .base-job .result in
+    let w = within k in
+    let long = length-take-le (L .left) (L .order) (omega (arith, L .inv .0, L .inv .1, start .pre .0)) in (
       search needs,
       search needs,
       search needs,
       search needs,
       search needs,
-      rw (t .0, t .1, t .2) (remaining-rest at (L .inv .5)),
+      rw (e .0, e .1, e .2) (remaining-rest at (L .inv .5)),
       λ r c′ er ec.
           let s = L .inv .6 r c′ er ec in (
-            rw (t .0, t .1) (map-rest r at (take (L .left) (L .order)) ∙ ap (rest at) (s .0)),
-            rw (t .0, t .2) (map-rest c′ at (take (L .left) (L .order)) ∙ ap (rest at) (s .1)),
-            rw (t .0, take-set-lt (a .n) (L .local) (i .index .result) (i .before .before .before .before .before .base-tail .result .completion) (inside i))
-                (sym (turn-more r c′ (Lower (a .bounds .now)) (λ j. getD (a .bounds .now) j 0) (λ j. 1_000_000_000) (L .left) (L .left - 1) (take (L .left) (L .order)) (take (a .n) (L .local)) (i .index .result) (i .before .before .before .before .before .base-tail .result .completion) (omega arith) (chosen i r c′ (s .0) (s .1)) (i .before .before .before .before .before .base-tail .ensures .2 r c′ (take (L .left) (L .order)) (s .0) (s .1) .0) (c .before .before .before .before .before .before .before .before .before .before .if1 .left) at (L .inv .5 .once) (omega arith) (getD-take (L .left) (L .order) at 0 w ∙ sym (i .index .ensures))) ∙ s .2),
+            rw (e .0, e .1) (map-rest r at xs ∙ ap (rest at) (s .0)),
+            rw (e .0, e .2) (map-rest c′ at xs ∙ ap (rest at) (s .1)),
+            rw (e .0, take-set-lt (a .n) (L .local) (i .index .result) (t .result .completion) (inside i))
+                (sym
+                (turn-more r c′ (Lower (a .bounds .now)) u (λ j. 1_000_000_000) (L .left) (L .left - 1) xs ds (i .index .result) (t .result .completion)
+                (omega arith) (chosen i r c′ (s .0) (s .1)) (t .ensures .2 r c′ xs (s .0) (s .1) .0)
+                (tested .if1 .left) at (L .inv .5 .once) (omega arith) (getD-take (L .left) (L .order) at 0 w ∙ sym (i .index .ensures)))
+                ∙ s .2),
           ),
     )
 

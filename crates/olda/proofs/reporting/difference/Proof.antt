@@ -1,8 +1,7 @@
 -- `reporting::difference` meets its contract: both numbers are far below what a signed word holds.
-use mathlib.Core.Path.{_≡_, _∙_}
 use mir.Facts.{toZ-pos, toZ-ofZ}
 use mir.Syntax.{w64}
-use Rattle.olda.proofs.Raised.{sub-minus, sub-fits}
+use Rattle.subjobs.proofs.Differences.{sub-minus, sub-fits}
 use borrow.Author.Needs.{needs}
 use Rattle.olda.proofs.reporting.difference.Statement.{statement}
 use Rattle.olda.proofs.reporting.difference.Tie as tie

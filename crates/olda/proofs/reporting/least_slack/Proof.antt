@@ -5,13 +5,12 @@ use mathlib.Core.Bool.{Bool}
 use mathlib.Core.List.{List}
 use mathlib.Core.Path.{_≡_, refl, ap, sym, _∙_}
 use mathlib.Core.Option.{some}
-use native.Mathlib.Omega.{arith}
 use lib.ListN.{length, getD, drop}
 use Rattle.lists.specs.Places.{places}
 use Rattle.lists.specs.Order.{ahead}
 use Rattle.lists.proofs.Cases.{split}
 use Rattle.subjobs.specs.Sets.{byBound}
-use Rattle.olda.proofs.Chosen.{choose-place, ahead-place, ahead-last}
+use Rattle.olda.proofs.Chosen.{choose-place, place-yes, place-no, place-end}
 use Rattle.olda.proofs.reporting.least_slack.Statement.{statement}
 use Rattle.olda.proofs.reporting.least_slack.Tie as tie
 
@@ -37,23 +36,34 @@ add-i c = search needs
 loop-less : tie.Need-loop-less Inv-loop μ-loop
 loop-less c = search needs
 
+tested :
+    (c : tie.After-tighter Inv-loop μ-loop)
+    → let l = c .before .before in
+    let a = l .before .before .before .args in
+    Order (a .bounds .now) (a .local .now) (l .loop .i) (l .loop .p) ≡ c .tighter .result
+tested c = sym (c .tighter .ensures)
+
 loop-again : tie.Need-loop-again Inv-loop μ-loop
 loop-again c =
-    let L = c .before .before .before .loop in
-    let a = c .before .before .before .before .before .before .args in
-    let step = sym (ahead-place (Order (a .bounds .now) (a .local .now)) (length (a .local .now)) (L .p) (L .i) (c .before .before .loop-test .taken)) ∙ L .inv .3 in
+    let t = c .before in
+    let l = t .before .before in
+    let L = l .loop in
+    let a = l .before .before .before .args in
+    let lt = Order (a .bounds .now) (a .local .now) in
+    let n = length (a .local .now) in
+    let h = t .before .loop-test .taken in
     split (c .if1 .came)
-    (λ w. (search needs, rw (w .1) (search needs), search needs, rw (w .1) (rw (sym (c .before .tighter .ensures) ∙ w .0 .taken) at step)))
-    (λ w. (search needs, rw (w .1) (search needs), search needs, rw (w .1) (rw (sym (c .before .tighter .ensures) ∙ w .0 .left) at step)))
+    (λ w. (search needs, rw (w .1) (search needs), search needs, rw (w .1) (place-yes lt n (L .p) (L .i) _ h (L .inv .3) (tested t ∙ w .0 .taken))))
+    (λ w. (search needs, rw (w .1) (search needs), search needs, rw (w .1) (place-no lt n (L .p) (L .i) _ h (L .inv .3) (tested t ∙ w .0 .left))))
 
 returns : tie.Need-returns Inv-loop μ-loop
 returns c =
     let L = c .before .loop in
-    let a = c .before .before .before .before in (
-      search needs,
-      choose-place (Order (a .args .bounds .now) (a .args .local .now)) (length (a .args .local .now)) (a .pre .0)
-          ∙ ap some (sym (L .inv .3) ∙ ahead-last (Order (a .args .bounds .now) (a .args .local .now)) (length (a .args .local .now)) (L .p) (L .i) (c .loop-test .left)),
-    )
+    let start = c .before .before .before .before in
+    let a = start .args in
+    let lt = Order (a .bounds .now) (a .local .now) in
+    let n = length (a .local .now) in
+    (search needs, choose-place lt n (start .pre .0) ∙ ap some (place-end lt n (L .p) (L .i) _ (c .loop-test .left) (L .inv .3)))
 
 pub least-slack-spec : {M : Type 1} → statement M
 least-slack-spec =

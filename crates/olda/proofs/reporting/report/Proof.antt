@@ -1,14 +1,13 @@
 -- `reporting::report` meets its contract: the place found is the one that the rules choose, by raised bounds.
 use Prim.Native.Nat.{ℕ, _+_}
-use mathlib.Core.Path.{_≡_, refl, ap, sym, _∙_}
-use borrow.Author.Needs.{sfits-of}
+use mathlib.Core.Path.{ap, sym, _∙_}
+use borrow.Author.Needs.{sfits-of, needs}
 use lib.IntN.{ℤ, subℕ}
 use lib.ListN.{length, getD}
 use mir.Facts.{toZ-ofZ}
 use mir.Syntax.{w64}
 use Rattle.olda.specs.declared.Answer.the-variants.{Placed}
 use Rattle.olda.proofs.Reports.{report-none, report-some}
-use borrow.Author.Needs.{needs}
 use Rattle.olda.proofs.reporting.report.Statement.{statement}
 use Rattle.olda.proofs.reporting.report.Tie as tie
 

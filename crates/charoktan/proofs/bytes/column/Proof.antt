@@ -1,0 +1,84 @@
+-- `bytes::column` meets its contract: what is read so far stands at the front.
+use borrow.Author.Needs.{needs}
+use Prim.Native.Nat.{_+_, _*_, _-_, _≤_}
+use mathlib.Core.Path.{_≡_, refl}
+use lib.ListN.{length, take, length-set}
+use native.Mathlib.Omega.{arith}
+use Rattle.charoktan.specs.Records.{column}
+use Rattle.charoktan.proofs.Coding.{inside, column-more}
+use Rattle.charoktan.proofs.bytes.column.Statement.{statement}
+use Rattle.charoktan.proofs.bytes.column.Tie as tie
+
+abbrev Inv-loop : tie.InvT-loop
+Inv-loop bytes width at n out₀ i₀ out i = (i ≤ n) × (length out ≡ length out₀) × (take i out ≡ column bytes width at i)
+
+abbrev μ-loop : tie.MeasureT-loop
+μ-loop bytes width at n out₀ i₀ out i = n - i
+
+fits : (c : tie.In-loop Inv-loop μ-loop) → let a = c .before .before .before .before .args in
+    a .width * c .before .loop .i + a .at + 4 ≤ length (a .bytes .now)
+fits c =
+    let a = c .before .before .before .before in
+    inside (a .args .width) (c .before .loop .i) (a .args .at) (a .args .n) (length (a .args .bytes .now)) (c .loop-test .taken) (a .pre .1) (a .pre .0)
+
+loop-holds : tie.Need-loop-holds Inv-loop μ-loop
+unfolding column
+loop-holds c = (search needs, refl, refl)
+
+mul-word : tie.Need-mul-word Inv-loop μ-loop
+mul-word c = record { fits = omega (arith, fits c) }
+
+add-word : tie.Need-add-word Inv-loop μ-loop
+add-word c = record { fits = omega (arith, fits c) }
+
+word-requires : tie.Need-word-requires Inv-loop μ-loop
+word-requires c κs = fits c
+
+mul-out : tie.Need-mul-out Inv-loop μ-loop
+mul-out c = search needs
+
+slice-write-out : tie.Need-slice-write-out Inv-loop μ-loop
+slice-write-out c = search needs
+
+add-i : tie.Need-add-i Inv-loop μ-loop
+add-i c = search needs
+
+loop-less : tie.Need-loop-less Inv-loop μ-loop
+loop-less c = search needs
+
+loop-again : tie.Need-loop-again Inv-loop μ-loop
+loop-again c =
+    let l = c .before .before in
+    let a = l .before .before .before .args in (
+      search needs,
+      simp length-set (l .loop .inv .1),
+      column-more (a .bytes .now) (l .loop .out) (a .width) (a .at) (l .loop .i) (c .word .result) (search needs) (l .loop .inv .2)
+          (c .word .ensures),
+    )
+
+same-length : tie.Need-same-length Inv-loop μ-loop
+same-length c = search needs
+
+returns : tie.Need-returns Inv-loop μ-loop
+returns c =
+    let l = c .before in
+    let e : l .loop .i ≡ l .before .before .before .args .n = omega arith in
+    (rw e at (l .loop .inv .2), l .loop .inv .1)
+
+pub column-spec : {M : Type 1} → statement M
+column-spec =
+    tie.close
+    (tie.spec
+    Inv-loop
+    μ-loop
+    loop-holds
+    mul-word
+    add-word
+    word-requires
+    mul-out
+    slice-write-out
+    add-i
+    loop-less
+    loop-again
+    same-length
+    returns)

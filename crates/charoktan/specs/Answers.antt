@@ -1,0 +1,51 @@
+-- What the door returns and leaves: the assignment's and the checker's own answers on the decoded lists.
+--
+--   code number place   == the number returned for a refusal
+--   assigned bs m       == what charoktan_assign returns, for m bytes of results
+--   assignedBytes bs out == what the results hold afterwards, if they held out before
+--   checked bs ds       == what charoktan_check returns
+use Prim.Native.Nat.{ℕ, _+_, _*_}
+use mathlib.Core.Bool.{cond}
+use mathlib.Core.List.{List}
+use lib.ListN.{length, replicate}
+use Rattle.subjobs.specs.declared.Reason.{Reason}
+use Rattle.subjobs.specs.Reasons.{numberOf, placeOf}
+use Rattle.olda.specs.declared.Answer as olda
+use Rattle.olda.specs.declared.Answer.the-variants.{Placed, Nothing, Refused}
+use Rattle.olda.specs.Answers.{answer, results}
+use Rattle.checker.specs.declared.Answer as checker
+use Rattle.checker.specs.declared.Answer.the-variants as check
+use Rattle.checker.specs.Answers as checkers
+use Rattle.charoktan.specs.Records.{count, records, encoded, fitting, words}
+
+-- The number returned is 0, or the refusal number plus 65,536 times the place.
+abbrev pub code : Reason → ℕ
+code r = numberOf r + 65_536 * placeOf r
+
+abbrev pub placing : olda.Answer → ℕ
+placing (Placed r) = 0
+placing Nothing = 0
+placing (Refused r) = code r
+
+abbrev pub checking : checker.Answer → ℕ
+checking check.Accepted = 0
+checking (check.Refused r) = code r
+
+unfoldable pub assigned : List ℕ → ℕ → ℕ
+assigned bs m = cond (fitting bs m) (placing (answer (records bs) (count bs))) 1
+
+-- A refused call leaves every byte; an empty set has none.
+abbrev pub ifPlaced : olda.Answer → List ℕ → List ℕ → List ℕ
+ifPlaced (Placed r) new old = new
+ifPlaced Nothing new old = old
+ifPlaced (Refused r) new old = old
+
+unfoldable pub assignedBytes : List ℕ → List ℕ → List ℕ
+assignedBytes bs out =
+    cond (fitting bs (length out))
+    (ifPlaced (answer (records bs) (count bs)) (encoded (results (records bs) (replicate (count bs) 0))) out)
+    out
+
+unfoldable pub checked : List ℕ → List ℕ → ℕ
+checked bs ds =
+    cond (fitting bs (length ds)) (checking (checkers.answer (records bs) (words ds (count bs)))) 1

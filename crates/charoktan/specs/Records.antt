@@ -1,0 +1,48 @@
+-- The engine's bytes: its own C struct array in, numbers out.
+--
+--   word bs at       == the 32-bit little-endian number at byte at
+--   column bs w k n  == the numbers at byte k of each of n records of w bytes
+--   records bs       == the set that the bytes hold
+--   bytes v          == the four bytes of a number, little-endian
+--   encoded vs       == the bytes of a list of numbers
+--   words bs n       == the n numbers that these bytes hold
+--   fitting bs m     == the lengths fit: whole records, and 4 bytes of results for each
+use Prim.Native.Nat.{ℕ, zero, suc, _+_, _*_, _/_, _%_}
+use mathlib.Core.Bool.{Bool, _&&_}
+use mathlib.Core.List.{List, [], _∷_, _++_}
+use lib.Dec.{eqb}
+use lib.ListN.{length, getD}
+use Rattle.subjobs.specs.Sets.{Subjobs, subjobs}
+
+abbrev pub word : List ℕ → ℕ → ℕ
+word bs at =
+    getD bs at 0 + 256 * getD bs (at + 1) 0 + 65_536 * getD bs (at + 2) 0 + 16_777_216 * getD bs (at + 3) 0
+
+unfoldable pub column : List ℕ → (width at : ℕ) → ℕ → List ℕ
+column bs w k zero = []
+column bs w k (suc n) = column bs w k n ++ (word bs (w * n + k) ∷ [])
+
+-- how many records the bytes hold
+abbrev pub count : List ℕ → ℕ
+count bs = length bs / 24
+
+-- six 32-bit little-endian numbers per sub-job in the field order of the header, 24 bytes, no padding
+unfoldable pub records : List ℕ → Subjobs
+records bs =
+    let field : ℕ → List ℕ = λ k. column bs 24 k (count bs) in
+    subjobs (field 0) (field 4) (field 8) (field 12) (field 16) (field 20)
+
+-- results are 4 bytes little-endian each
+abbrev pub bytes : ℕ → List ℕ
+bytes v = v % 256 ∷ v / 256 % 256 ∷ v / 65_536 % 256 ∷ v / 16_777_216 % 256 ∷ []
+
+unfoldable pub encoded : List ℕ → List ℕ
+encoded [] = []
+encoded (v ∷ vs) = bytes v ++ encoded vs
+
+abbrev pub words : List ℕ → ℕ → List ℕ
+words bs n = column bs 4 0 n
+
+-- A length that is not a multiple of 24, or a deadline slice that is not 4 bytes per sub-job, is refusal 1.
+abbrev pub fitting : List ℕ → ℕ → Bool
+fitting bs m = eqb (length bs % 24) 0 && eqb m (4 * count bs)

@@ -1,0 +1,4 @@
+pub mod Searches
+pub mod Accepts
+pub mod Runs
+pub mod Reported

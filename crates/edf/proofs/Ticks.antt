@@ -1,0 +1,125 @@
+-- What is promised of a run's ticks: busy is the sum of what is owed, busy plus idle is the end, a finish is the end of the
+-- last tick served, and the totals of runs add up.
+use Prim.Native.Nat.{ℕ, zero, suc, _+_, _-_, _≤_, _<_}
+use mathlib.Core.Bool.{Bool}
+use mathlib.Core.List.{List, List·Memᴰ, map}
+use mathlib.Core.Option.{some}
+use mathlib.Core.Path.{_≡_, ap, _∙_}
+use mathlib.Core.Logic.{_≢_}
+use native.Mathlib.Nat.{add-suc, add-zero, zero-add}
+use native.Mathlib.Omega.{arith}
+use borrow.Author.Tests.{eq-eqb}
+use lib.ListN.{getD}
+use Rattle.lists.specs.Places.{places, from, weight, Nodup}
+use Rattle.lists.proofs.Cases.{split}
+use Rattle.lists.proofs.Members.{in-from, nodup-from}
+use Rattle.subjobs.specs.Sets.{Subjobs, size, job, subtask, release, execution}
+use Rattle.edf.specs.declared.Totals.{Totals}
+use Rattle.edf.specs.declared.Report.{Report}
+use Rattle.edf.specs.declared.Answer.the-variants.{Ran}
+use Rattle.edf.specs.Runs.{sooner, owed, horizon, finish}
+use Rattle.edf.specs.Answers.{runOf, run, added, answer, totals}
+use Rattle.edf.proofs.Service.{served, turn, served-is-active, served-later}
+use Rattle.edf.proofs.Counted.{done-horizon}
+use Rattle.edf.proofs.Ends.{ended, ended-most, still, last-tick, finish-owed, busy-owed, all-ticks}
+use Rattle.edf.proofs.Turns.{below}
+
+-- f is the end of the last tick served to i: the tick before it is served to i, and no later one.
+pub record LastTick (r o : ℕ → ℕ) (lt : ℕ → ℕ → Bool) (xs : List ℕ) (i f : ℕ) : Type 0 where
+  pub tick : ℕ
+  pub ends : suc tick ≡ f
+  pub served : turn r o lt xs tick ≡ some i
+  pub last : (t : ℕ) → f ≤ t → turn r o lt xs t ≢ some i
+
+module _ (r o : ℕ → ℕ) (lt : ℕ → ℕ → Bool) (xs : List ℕ) (small : (i : ℕ) → List·Memᴰ i xs → i < 128) (once : Nodup xs) where
+  pub finish-last : (i : ℕ) → List·Memᴰ i xs → 0 < o i → LastTick r o lt xs i (finish r o lt xs i)
+  finish-last i m h =
+      let H = horizon r o lt xs in
+      let F = ended r o lt xs H i in
+      let all = done-horizon r o lt xs small once i m in
+      let early = ended-most r o lt xs small H i in
+      let there : H ≡ F + (H - F) = omega arith in
+      let by : o i ≤ served r o lt xs F i =
+      omega (
+        arith,
+        ap (λ (t : ℕ). served r o lt xs t i) there,
+        still r o lt xs small F i (H - F) (omega (arith, ap (λ (t : ℕ). ended r o lt xs t i) there)),
+      )
+      in
+      rw (finish-owed r o lt xs small once i h)
+      (split (last-tick r o lt xs small H i)
+      (λ z. absurd (omega arith))
+      (λ w.
+      record {
+        tick = w .0;
+        ends = w .1 .0;
+        served = w .1 .1;
+        last = λ t l e.
+            let then : t ≡ F + (t - F) = omega arith in
+            omega (
+              arith,
+              served-is-active r o lt xs t e .2,
+              ap (λ (u : ℕ). served r o lt xs u i) then,
+              served-later r o lt xs small F (t - F) i,
+            );
+      }))
+
+map-from : (f : ℕ → ℕ) (n a i : ℕ) → i < n → getD (map f (from a n)) i 0 ≡ f (a + i)
+unfolding from
+map-from f zero a i h = absurd (omega arith)
+map-from f (suc n) a zero h = rw (add-zero a)
+map-from f (suc n) a (suc i) h = rw (add-suc a i) (map-from f n (suc a) i (omega arith) ∙ ap f (let q : suc a + i ≡ suc (a + i) = omega arith in q))
+
+-- Whole runs of a set, whatever its deadlines and asks.
+module _ (s : Subjobs) (ds asks : List ℕ) where
+  abbrev owedOf : ℕ → ℕ
+  owedOf = owed (execution s) (λ i. getD asks i 0)
+
+  abbrev orderOf : ℕ → ℕ → Bool
+  orderOf = sooner (λ i. getD ds i 0) (job s) (subtask s)
+
+  pub finish-at : (i : ℕ) → i < size s → getD (run s ds asks .finishes) i 0 ≡ finish (release s) owedOf orderOf (places (size s)) i
+  unfolding runOf
+  finish-at i h = map-from (finish (release s) owedOf orderOf (places (size s))) (size s) 0 i h ∙ ap (finish (release s) owedOf orderOf (places (size s))) (zero-add i)
+
+  -- The finish of one that is owed nothing is its release.
+  pub finish-nothing : (i : ℕ) → i < size s → owedOf i ≡ 0 → getD (run s ds asks .finishes) i 0 ≡ release s i
+  unfolding finish
+  finish-nothing i h z = finish-at i h ∙ rw (eq-eqb (owedOf i) 0 z)
+
+  module _ (few : size s ≤ 128) where
+    -- Busy is the sum of what is owed.
+    pub run-busy : run s ds asks .busy ≡ weight owedOf (places (size s))
+    unfolding runOf
+    run-busy = busy-owed (release s) owedOf orderOf (places (size s)) (below (size s) few) (nodup-from 0 (size s))
+
+    -- Busy plus idle is the end.
+    pub run-ticks : run s ds asks .busy + run s ds asks .idle ≡ run s ds asks .end
+    unfolding runOf
+    run-ticks = all-ticks (release s) owedOf orderOf (places (size s)) (below (size s) few) (nodup-from 0 (size s))
+
+    -- A finish is the end of the last tick served.
+    pub run-finish :
+        (i : ℕ) → i < size s → 0 < owedOf i
+        → LastTick (release s) owedOf orderOf (places (size s)) i (getD (run s ds asks .finishes) i 0)
+    run-finish i h l =
+        rw (finish-at i h)
+        (finish-last (release s) owedOf orderOf (places (size s)) (below (size s) few) (nodup-from 0 (size s)) i (in-from 0 (size s) (omega arith) (omega arith)) l)
+
+-- An accepted run adds its ticks to the totals,
+pub ran-adds :
+    (s : Subjobs) (ds asks : List ℕ) (n : ℕ) (t : Totals) (p : Report) → answer s ds asks n t ≡ Ran p
+    → totals s ds asks n t ≡ added (run s ds asks) t
+unfolding totals
+ran-adds s ds asks n t p e = rw e
+
+-- and so two runs' totals add up.
+pub two-runs :
+    (s s′ : Subjobs) (ds asks ds′ asks′ : List ℕ) (n n′ : ℕ) (t : Totals) (p p′ : Report)
+    → answer s ds asks n t ≡ Ran p
+    → answer s′ ds′ asks′ n′ (totals s ds asks n t) ≡ Ran p′
+    → _≡_ {A = Totals}
+    (totals s′ ds′ asks′ n′ (totals s ds asks n t))
+    (record { busy = t .busy + run s ds asks .busy + run s′ ds′ asks′ .busy; idle = t .idle + run s ds asks .idle + run s′ ds′ asks′ .idle })
+two-runs s s′ ds asks ds′ asks′ n n′ t p p′ e e′ =
+    ran-adds s′ ds′ asks′ n′ (totals s ds asks n t) p′ e′ ∙ ap (added (run s′ ds′ asks′)) (ran-adds s ds asks n t p e)

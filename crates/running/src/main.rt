@@ -1,0 +1,227 @@
+// Runs sets through the simulated core and prints what comes out, one line each: the answer, the totals afterwards and
+// the finishes.
+use edf::Answer;
+use edf::Simulated;
+use edf::Totals;
+use libc::STDOUT_FILENO;
+
+fn say(text: &[u8]) {
+    io::write_all(STDOUT_FILENO, text);
+}
+
+fn say_number(x: u64) {
+    io::print_decimal(STDOUT_FILENO, x);
+}
+
+fn say_answer(answer: Answer) {
+    match answer {
+        Answer::Ran(report) => {
+            say(b"ran to ");
+            say_number(report.end as u64);
+        }
+        Answer::Refused(reason) => {
+            say(b"refused ");
+            say_number(subjobs::number_of(reason) as u64);
+            say(b", place ");
+            say_number(subjobs::place_of(reason) as u64);
+        }
+    }
+}
+
+fn say_totals(totals: Totals) {
+    say(b"; busy ");
+    say_number(totals.busy);
+    say(b", idle ");
+    say_number(totals.idle);
+}
+
+// The numbers of a list, and the end of the line.
+fn say_list(list: &[u32]) {
+    let mut i = 0;
+    while i < list.len() {
+        say(b" ");
+        say_number(list[i] as u64);
+        i += 1;
+    }
+    say(b"\n");
+}
+
+fn say_run(label: &[u8], simulated: Simulated, finishes: &[u32]) {
+    let answer = simulated.answer;
+    let totals = simulated.totals;
+    say(label);
+    say(b": ");
+    say_answer(answer);
+    say_totals(totals);
+    say(b"; finishes");
+    say_list(finishes);
+}
+
+// The set of document 01's example, with deadlines and asks.
+fn example(label: &[u8], local: &[u32], asks: &[u32]) {
+    let mut finishes = [0u32; 4];
+    let simulated = edf::simulate(
+        &[1, 2, 3, 4],
+        &[1, 1, 1, 1],
+        &[0, 4, 5, 6],
+        &[2, 2, 2, 1],
+        &[35, 42, 39, 35],
+        &[0, 0, 0, 0],
+        local,
+        asks,
+        &mut finishes,
+        Totals { busy: 0, idle: 0 },
+    );
+    say_run(label, simulated, &finishes);
+}
+
+// Two sub-jobs of two ticks each, released at 0, with these jobs, subtasks and deadlines.
+fn two(label: &[u8], jobs: &[u32], subtasks: &[u32], local: &[u32]) {
+    let mut finishes = [0u32; 2];
+    let simulated = edf::simulate(
+        jobs,
+        subtasks,
+        &[0, 0],
+        &[2, 2],
+        &[9, 9],
+        &[0, 0],
+        local,
+        &[2, 2],
+        &mut finishes,
+        Totals { busy: 0, idle: 0 },
+    );
+    say_run(label, simulated, &finishes);
+}
+
+// One sub-job, on totals so far. Its finish is 9 before the run.
+fn one(label: &[u8], release: u32, execution: u32, ask: u32, totals: Totals) {
+    let mut finishes = [9u32; 1];
+    let simulated = edf::simulate(
+        &[1],
+        &[1],
+        &[release],
+        &[execution],
+        &[2_000_000_000],
+        &[0],
+        &[4_294_967_295],
+        &[ask],
+        &mut finishes,
+        totals,
+    );
+    say_run(label, simulated, &finishes);
+}
+
+fn none(label: &[u8], totals: Totals) {
+    let mut finishes = [0u32; 0];
+    let simulated = edf::simulate(
+        &[],
+        &[],
+        &[],
+        &[],
+        &[],
+        &[],
+        &[],
+        &[],
+        &mut finishes,
+        totals,
+    );
+    say_run(label, simulated, &finishes);
+}
+
+fn main() {
+    example(b"P10", &[2, 9, 8, 7], &[2, 1, 0, 5]);
+    example(
+        b"the example, every ask its execution",
+        &[2, 9, 8, 7],
+        &[2, 2, 2, 1],
+    );
+    example(b"an ask too few", &[2, 9, 8, 7], &[2, 1, 0]);
+    none(b"nobody", Totals { busy: 0, idle: 0 });
+    one(
+        b"1,001,000,000 ticks",
+        1_000_000_000,
+        1_000_000,
+        4_294_967_295,
+        Totals { busy: 0, idle: 0 },
+    );
+    one(
+        b"an ask of 0",
+        1_000_000_000,
+        1_000_000,
+        0,
+        Totals { busy: 0, idle: 0 },
+    );
+    one(b"an execution of 0", 7, 0, 1, Totals { busy: 3, idle: 4 });
+    two(b"smaller deadline", &[1, 2], &[1, 1], &[5, 4]);
+    two(b"equal deadlines, smaller job", &[2, 1], &[1, 9], &[4, 4]);
+    two(
+        b"equal deadlines and jobs, smaller subtask",
+        &[3, 3],
+        &[2, 1],
+        &[4, 4],
+    );
+    one(
+        b"busy total at the most",
+        5,
+        2,
+        2,
+        Totals {
+            busy: 999_999_999_999_999_998,
+            idle: 0,
+        },
+    );
+    one(
+        b"busy total above it",
+        5,
+        2,
+        2,
+        Totals {
+            busy: 999_999_999_999_999_999,
+            idle: 0,
+        },
+    );
+    one(
+        b"idle total at the most",
+        5,
+        2,
+        2,
+        Totals {
+            busy: 0,
+            idle: 999_999_999_999_999_995,
+        },
+    );
+    one(
+        b"idle total above it",
+        5,
+        2,
+        2,
+        Totals {
+            busy: 0,
+            idle: 999_999_999_999_999_996,
+        },
+    );
+    one(
+        b"the largest record",
+        5,
+        2,
+        2,
+        Totals {
+            busy: 18_446_744_073_709_551_615,
+            idle: 18_446_744_073_709_551_615,
+        },
+    );
+    none(
+        b"nobody, at the most",
+        Totals {
+            busy: 1_000_000_000_000_000_000,
+            idle: 0,
+        },
+    );
+    none(
+        b"nobody, already above it",
+        Totals {
+            busy: 0,
+            idle: 1_000_000_000_000_000_001,
+        },
+    );
+}

@@ -1,0 +1,338 @@
+// A small engine that loads rooms behind doors, as a game would use the library. A player sees a
+// door, and some time later opens it; until then the job behind it must have been fetched, its
+// pipelines built, its data unpacked and uploaded, all on one core. Before a room is loaded the
+// engine asks charoktan for a local deadline per stage; then it serves, in each tick, the waiting
+// stage whose deadline comes first. A door that opens before its upload has ended is a hitch.
+//
+// A stage is a sub-job: it is released when the stages before it can have ended at the earliest,
+// and its critical time is what the stages after it may take. How long it really takes is rolled;
+// it is cut off at its execution time. The dice are seeded: every run prints the same text.
+
+#include "charoktan.h"
+#include "dice.h"
+
+#include <algorithm>
+#include <array>
+#include <cstdio>
+#include <queue>
+#include <tuple>
+#include <vector>
+
+namespace {
+
+constexpr uint32_t stage_count = 4;
+constexpr std::array<const char *, stage_count> stage_names = {"fetch", "pipeline build", "unpack",
+                                                               "upload"};
+
+struct Door {
+    uint32_t number;
+    uint32_t seen;   // the moment from which its job may be served
+    uint32_t opened; // the moment at which it must be there
+    std::array<uint32_t, stage_count> longest;
+};
+
+using Room = std::vector<Door>;
+using Set = std::vector<charoktan::subjob>;
+using Moments = std::vector<uint32_t>;
+
+// A room's stages as the library's sub-jobs, four places per door.
+Set subjobs_of(const Room &room)
+{
+    Set set;
+    for (const Door &door : room) {
+        uint32_t before = 0;
+        uint32_t after = 0;
+        for (uint32_t longest : door.longest)
+            after += longest;
+        for (uint32_t stage = 0; stage < stage_count; ++stage) {
+            const uint32_t longest = door.longest[stage];
+            after -= longest;
+            set.push_back({door.number, stage, door.seen + before, longest, door.opened, after});
+            before += longest;
+        }
+    }
+    return set;
+}
+
+// The error that looks right: a door's time shared among its stages by their lengths, blind to the
+// other doors.
+Moments shared_by_length(const Room &room)
+{
+    Moments moments;
+    for (const Door &door : room) {
+        uint32_t whole = 0;
+        uint32_t done = 0;
+        for (uint32_t longest : door.longest)
+            whole += longest;
+        for (uint32_t longest : door.longest) {
+            done += longest;
+            moments.push_back(door.seen + (door.opened - door.seen) * done / whole);
+        }
+    }
+    return moments;
+}
+
+// What a run of the core came to.
+struct Play {
+    Moments ended;
+    uint32_t ticks = 0;
+    uint32_t late = 0;    // stages that ended after their local deadline
+    uint32_t unready = 0; // ticks served to a stage whose forerunner had not ended
+    uint32_t hitches = 0; // doors that opened before their upload had ended
+};
+
+// A waiting stage; the one to serve has the smallest (deadline, job, subtask).
+struct Waiting {
+    uint32_t deadline, job, subtask;
+    size_t place;
+
+    bool operator>(const Waiting &other) const
+    {
+        return std::tie(deadline, job, subtask) >
+               std::tie(other.deadline, other.job, other.subtask);
+    }
+};
+
+// The core, tick by tick: stages join the queue at their release and leave it when they have taken
+// what they take.
+Play play(const Set &set, const Moments &deadlines, const Moments &taken)
+{
+    Play result;
+    result.ended.assign(set.size(), 0);
+    Moments left = taken;
+    std::priority_queue<Waiting, std::vector<Waiting>, std::greater<Waiting>> queue;
+    size_t unended = set.size();
+    for (uint32_t tick = 0; unended > 0; ++tick) {
+        for (size_t place = 0; place < set.size(); ++place)
+            if (set[place].release == tick)
+                queue.push({deadlines[place], set[place].job, set[place].subtask, place});
+        result.ticks = tick + 1;
+        if (queue.empty())
+            continue;
+        const size_t place = queue.top().place;
+        if (set[place].subtask > 0 && left[place - 1] > 0)
+            ++result.unready;
+        if (--left[place] > 0)
+            continue;
+        queue.pop();
+        --unended;
+        const uint32_t moment = tick + 1;
+        result.ended[place] = moment;
+        if (moment > deadlines[place])
+            ++result.late;
+        if (set[place].subtask == stage_count - 1 && moment > set[place].deadline)
+            ++result.hitches;
+    }
+    return result;
+}
+
+// Rolled lengths: some stages are quick, some would take longer than they may and are cut off.
+Moments rolled(Dice &dice, const Set &set, uint32_t &cut)
+{
+    Moments taken;
+    for (const charoktan::subjob &subjob : set) {
+        const uint32_t length = dice.roll(1, subjob.execution + subjob.execution / 4 + 1);
+        cut += length > subjob.execution;
+        taken.push_back(std::min(length, subjob.execution));
+    }
+    return taken;
+}
+
+Moments in_full(const Set &set)
+{
+    Moments taken;
+    for (const charoktan::subjob &subjob : set)
+        taken.push_back(subjob.execution);
+    return taken;
+}
+
+const char *reason(charoktan::refusal number)
+{
+    switch (number) {
+    case charoktan::refusal::none: return "accepted";
+    case charoktan::refusal::lengths: return "the arrays' lengths do not belong together";
+    case charoktan::refusal::too_many: return "more than 128 sub-jobs";
+    case charoktan::refusal::field: return "a field is out of range";
+    case charoktan::refusal::pair: return "the pair of job and subtask was seen before";
+    case charoktan::refusal::late: return "its upper bound is below the completion";
+    case charoktan::refusal::outside:
+        return "its deadline is not between its earliest end and its upper bound";
+    case charoktan::refusal::missed: return "it would end after its deadline";
+    }
+    return "no number of the door";
+}
+
+void print_answer(const char *what, const Set &set, charoktan::answer answer)
+{
+    if (answer.accepted()) {
+        std::printf("%s: accepted\n", what);
+        return;
+    }
+    std::printf("%s: refused by number %u at place %u", what,
+                static_cast<unsigned>(answer.number()), static_cast<unsigned>(answer.place()));
+    if (answer.number() >= charoktan::refusal::field) {
+        const charoktan::subjob &at = set[answer.place()];
+        std::printf(" (door %u, %s)", static_cast<unsigned>(at.job),
+                    stage_names[at.subtask % stage_count]);
+    }
+    std::printf(": %s\n", reason(answer.number()));
+}
+
+void print_run(const Set &set, const Moments &deadlines, const Moments &taken, const Play &run)
+{
+    std::printf("  door  stage           release  longest  bound  deadline  took  ended\n");
+    for (size_t place = 0; place < set.size(); ++place)
+        std::printf("  %4u  %-14s  %7u  %7u  %5d  %8u  %4u  %5u\n", set[place].job,
+                    stage_names[set[place].subtask], set[place].release, set[place].execution,
+                    static_cast<int>(set[place].deadline) - static_cast<int>(set[place].critical),
+                    deadlines[place], taken[place], run.ended[place]);
+    std::printf("  %u ticks, %u late stages, %u hitches\n", run.ticks, run.late, run.hitches);
+}
+
+// One room from its doors to its last upload. True if it went as promised.
+bool show_room(Dice &dice)
+{
+    const Room room = {
+        {1, 0, 30, {6, 4, 5, 3}}, {2, 4, 18, {3, 2, 5, 2}}, {3, 10, 43, {2, 3, 2, 4}}};
+    const Set set = subjobs_of(room);
+    Moments deadlines(set.size());
+    const charoktan::answer answer = charoktan::assign(set, deadlines);
+    print_answer("a room of three doors", set, answer);
+    if (!answer.accepted())
+        return false;
+    uint32_t cut = 0;
+    const Moments taken = rolled(dice, set, cut);
+    const Play run = play(set, deadlines, taken);
+    print_run(set, deadlines, taken, run);
+
+    const Play longest = play(set, deadlines, in_full(set));
+    std::printf("  with every stage at its longest: %u late stages, %u hitches, every end %s its "
+                "deadline\n",
+                longest.late, longest.hitches, longest.ended == deadlines ? "on" : "NOT on");
+
+    const Moments shared = shared_by_length(room);
+    print_answer("the same room, each door's time shared by length", set,
+                 charoktan::check(set, shared));
+    const Play blind = play(set, shared, in_full(set));
+    std::printf("  with every stage at its longest: %u late stages, %u hitches\n\n", blind.late,
+                blind.hitches);
+    const bool kept = run.late + run.hitches + run.unready + longest.late + longest.hitches == 0;
+    return kept && longest.ended == deadlines && charoktan::check(set, deadlines).accepted();
+}
+
+// Sets that are refused, each with its reason; the deadlines lent to the door stay as they were.
+bool show_refusals()
+{
+    const Room room = {{1, 0, 40, {6, 4, 5, 3}}, {2, 4, 30, {3, 2, 5, 2}}};
+    const Set good = subjobs_of(room);
+    bool kept = true;
+    const auto show = [&kept](const char *what, const Set &set, size_t deadlines_count,
+                              charoktan::refusal number, uint32_t place) {
+        Moments deadlines(deadlines_count, 77);
+        const charoktan::answer answer = charoktan::assign(set, deadlines);
+        print_answer(what, set, answer);
+        kept = kept && answer.number() == number && answer.place() == place &&
+               deadlines == Moments(deadlines_count, 77);
+    };
+    Set set = good;
+    show("a deadline too few", good, good.size() - 1, charoktan::refusal::lengths, 0);
+    Room many;
+    for (uint32_t door = 1; door <= 33; ++door)
+        many.push_back({door, 0, 10000, {1, 1, 1, 1}});
+    const Set too_many = subjobs_of(many);
+    show("a room of 33 doors", too_many, too_many.size(), charoktan::refusal::too_many, 0);
+    set[5].execution = 0;
+    show("a stage without length", set, set.size(), charoktan::refusal::field, 5);
+    set = good;
+    set[6].job = set[2].job;
+    show("a stage that is there twice", set, set.size(), charoktan::refusal::pair, 6);
+    set =
+        subjobs_of({{1, 0, 40, {6, 4, 5, 3}}, {2, 4, 18, {3, 2, 5, 2}}, {3, 5, 19, {3, 1, 2, 2}}});
+    show("a room with three doors too close", set, set.size(), charoktan::refusal::late, 11);
+
+    std::printf("what was lent for the deadlines of the refused stayed %s\n\n",
+                kept ? "as it was" : "NOT as it was");
+    return kept;
+}
+
+// A pointer may be null where no bytes are lent.
+bool show_nothing()
+{
+    const Set set = subjobs_of({{1, 0, 40, {6, 4, 5, 3}}});
+    Moments deadlines(set.size());
+    const charoktan::answer none = charoktan::assign(nullptr, 0, nullptr, 0);
+    const charoktan::answer no_deadlines = charoktan::assign(set.data(), set.size(), nullptr, 0);
+    const charoktan::answer no_doors = charoktan::assign(nullptr, 0, deadlines.data(), 4);
+    print_answer("a room without doors", {}, none);
+    print_answer("no deadlines at all", set, no_deadlines);
+    print_answer("deadlines without doors", {}, no_doors);
+    std::printf("\n");
+    return none.accepted() && no_deadlines.number() == charoktan::refusal::lengths &&
+           no_doors.number() == charoktan::refusal::lengths &&
+           charoktan::check(nullptr, 0, nullptr, 0).accepted() &&
+           !charoktan::check(set.data(), set.size(), nullptr, 0).accepted() &&
+           !charoktan::check(nullptr, 0, deadlines.data(), 4).accepted();
+}
+
+Room random_room(Dice &dice)
+{
+    Room room(dice.roll(1, 32));
+    const uint32_t doors = static_cast<uint32_t>(room.size());
+    const uint32_t span = dice.roll(1, 160) * doors;
+    uint32_t number = 0;
+    for (Door &door : room) {
+        door.number = ++number;
+        door.seen = dice.roll(0, span);
+        door.opened = door.seen + dice.roll(40, 400 + 40 * doors);
+        for (uint32_t &longest : door.longest)
+            longest = dice.roll(1, 20);
+    }
+    return room;
+}
+
+// A long play: rooms by the dice, each loaded if it is accepted.
+bool play_rooms(Dice &dice, uint32_t rooms)
+{
+    uint32_t accepted = 0, late = 0, unready = 0, hitches = 0, cut = 0;
+    uint64_t stages = 0, ticks = 0;
+    bool kept = true;
+    for (uint32_t k = 0; k < rooms; ++k) {
+        const Set set = subjobs_of(random_room(dice));
+        Moments deadlines(set.size(), 0);
+        const charoktan::answer answer = charoktan::assign(set, deadlines);
+        if (!answer.accepted()) {
+            kept = kept && answer.number() == charoktan::refusal::late;
+            continue;
+        }
+        ++accepted;
+        stages += set.size();
+        const Play run = play(set, deadlines, rolled(dice, set, cut));
+        ticks += run.ticks;
+        late += run.late;
+        unready += run.unready;
+        hitches += run.hitches;
+        kept = kept && charoktan::check(set, deadlines).accepted() &&
+               play(set, deadlines, in_full(set)).ended == deadlines;
+    }
+    std::printf("%u rooms: %u accepted, %u refused by number 5\n", rooms, accepted,
+                rooms - accepted);
+    std::printf("the accepted: %llu stages (%u cut off) in %llu ticks, %u late, %u before their "
+                "forerunner, %u hitches\n",
+                static_cast<unsigned long long>(stages), cut,
+                static_cast<unsigned long long>(ticks), late, unready, hitches);
+    return kept && late + unready + hitches == 0;
+}
+
+} // namespace
+
+int main()
+{
+    Dice dice(1);
+    const bool room = show_room(dice);
+    const bool refusals = show_refusals();
+    const bool nothing = show_nothing();
+    const bool rooms = play_rooms(dice, 2000);
+    const bool kept = room && refusals && nothing && rooms;
+    std::printf("%s\n", kept ? "every promise was kept" : "A PROMISE WAS BROKEN");
+    return kept ? 0 : 1;
+}

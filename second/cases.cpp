@@ -1,0 +1,552 @@
+// The stored cases: what `trial` reads and must answer, and the tables for `deadlines`.
+// First the edges by hand, then random cases around them; the seed is fixed.
+#include "commands.hpp"
+#include "sets.hpp"
+
+#include <algorithm>
+#include <filesystem>
+#include <fstream>
+#include <iostream>
+#include <stdexcept>
+
+static constexpr u32 LARGEST = 4'294'967'295;
+static constexpr u64 LARGEST_64 = 18'446'744'073'709'551'615u;
+static constexpr u64 MOST_TICKS = 1'000'000'000'000'000'000;
+
+// ---------------------------------------------------------------- cases as text
+
+// Every number is followed by one space, the last one of a case by LF instead.
+static void put(std::string& text, u64 number) { text += std::to_string(number) + ' '; }
+
+static void put(std::string& text, const List& list) {
+    put(text, list.size());
+    for (u32 number : list) put(text, number);
+}
+
+static void put(std::string& text, const Set& set) {
+    for (const List* list :
+         {&set.job, &set.subtask, &set.release, &set.execution, &set.deadline, &set.critical})
+        put(text, *list);
+}
+
+static void end_line(std::string& text) { text.back() = '\n'; }
+
+template <class Number>
+static void say(std::string& text, Number number) {
+    text += ' ';
+    text += std::to_string(number);
+}
+
+static void say(std::string& text, const Refusal& refusal) {
+    text += "refused";
+    say(text, refusal.number);
+    say(text, refusal.place);
+    if (refusal.number == 3) say(text, u32{refusal.field});
+    if (refusal.number == 5) {
+        say(text, refusal.completion);
+        say(text, refusal.bound);
+    }
+}
+
+static void say_list(std::string& text, const List& list) {
+    text += " :";
+    for (u32 number : list) say(text, number);
+}
+
+// The two texts as they grow. A case that single ticks cannot answer in time is left out of both.
+class Trial {
+public:
+    std::string in, out;
+    std::array<std::size_t, 5> count{};  // by kind; kind 0 is the end
+
+    void ask_assign(const Set& set, const List& before) {
+        List results = before;
+        const Assigned answer = assign(set, results);
+        put(in, 1);
+        put(in, set);
+        put(in, before);
+        end_line(in);
+        if (answer.refused) {
+            say(out, *answer.refused);
+        } else if (answer.nothing) {
+            out += "nothing";
+        } else {
+            out += "placed";
+            say(out, answer.slack);
+            say(out, answer.place);
+        }
+        say_list(out, results);
+        out += '\n';
+        ++count[1];
+    }
+
+    void ask_simulate(const Set& set, const List& deadlines, const List& asks, const List& before,
+                      const Totals& totals_before) try {
+        List finishes = before;
+        Totals totals = totals_before;
+        const Simulated answer = simulate(set, deadlines, asks, finishes, totals);
+        put(in, 2);
+        put(in, set);
+        put(in, deadlines);
+        put(in, asks);
+        put(in, before);
+        put(in, totals_before.busy);
+        put(in, totals_before.idle);
+        end_line(in);
+        if (answer.refused) {
+            say(out, *answer.refused);
+        } else {
+            out += "ran";
+            say(out, answer.end);
+        }
+        out += " :";
+        say(out, totals.busy);
+        say(out, totals.idle);
+        say_list(out, finishes);
+        out += '\n';
+        ++count[2];
+    } catch (const TooManyTicks&) {
+    }
+
+    void ask_check(const Set& set, const List& proposed) try {
+        const Refused answer = check(set, proposed);
+        put(in, 3);
+        put(in, set);
+        put(in, proposed);
+        end_line(in);
+        if (answer)
+            say(out, *answer);
+        else
+            out += "accepted";
+        out += '\n';
+        ++count[3];
+    } catch (const TooManyTicks&) {
+    }
+
+    void ask_table(const std::string& text) try {
+        const std::string output = table(text);
+        put(in, 4);
+        put(in, text.size());
+        end_line(in);
+        in += text + '\n';
+        out += std::to_string(output.size()) + '\n' + output + '\n';
+        ++count[4];
+    } catch (const TooManyTicks&) {
+    }
+
+    void ask_end() {
+        put(in, 0);
+        end_line(in);
+    }
+};
+
+// ---------------------------------------------------------------- edges by hand
+
+// n sub-jobs that can be placed, whatever n is.
+static Set many(std::size_t n) { return set_of(std::vector<std::array<u32, 3>>(n, {3, 1, 500})); }
+
+// Six lists that are not all of one length: each one too short, too long, and empty.
+static std::vector<Set> unequal_sets() {
+    std::vector<Set> sets;
+    for (std::size_t k = 0; k < 6; ++k)
+        for (std::size_t length : {3, 5, 0}) {
+            Set set = p4();
+            lists(set)[k]->resize(length, 9);
+            sets.push_back(set);
+        }
+    Set set = many(129);  // 1 comes before 2
+    set.critical.pop_back();
+    sets.push_back(set);
+    set = many(128);
+    set.job.push_back(900);
+    sets.push_back(set);
+    return sets;
+}
+
+// Both sides of numbers 2, 3 and 4, and several at once.
+static std::vector<Set> edge_sets() {
+    std::vector<Set> sets;
+    for (std::size_t n : {128, 129, 160}) sets.push_back(many(n));
+    Set set = many(129);  // 2 comes before 3
+    set.execution[0] = 0;
+    sets.push_back(set);
+    set = many(128);
+    set.execution[127] = 0;
+    sets.push_back(set);
+    set = many(128);
+    set.job[127] = set.job[126];
+    sets.push_back(set);
+
+    // Each field at both sides of its ends: alone in the set, and at the last place of four.
+    const std::vector<std::vector<u32>> ends = {
+        {0, 999'999'999, 1'000'000'000, 1'000'000'001, 2'147'483'648, LARGEST},
+        {0, 1, 999'999, 1'000'000, 1'000'001, 2'147'483'648, LARGEST},
+        {0, 1, 1'999'999'999, 2'000'000'000, 2'000'000'001, 2'147'483'648, LARGEST},
+        {0, 1, 999'999'999, 1'000'000'000, 1'000'000'001, 2'147'483'648, LARGEST}};
+    for (std::size_t field = 0; field < 4; ++field)
+        for (u32 value : ends[field]) {
+            set = set_of({{5, 2, 2'000'000'000}});
+            (*lists(set)[field + 2])[0] = value;
+            sets.push_back(set);
+            set = p4();
+            (*lists(set)[field + 2])[3] = value;
+            sets.push_back(set);
+        }
+
+    // Two fields wrong at one place, and at two places: the smallest place, then the first field.
+    for (std::size_t one = 2; one < 6; ++one)
+        for (std::size_t other = 2; other < 6; ++other) {
+            set = p4();
+            (*lists(set)[one])[2] = LARGEST;
+            (*lists(set)[other])[2] = LARGEST;
+            sets.push_back(set);
+            set = p4();
+            (*lists(set)[one])[1] = LARGEST;
+            (*lists(set)[other])[3] = LARGEST;
+            sets.push_back(set);
+        }
+
+    // Pairs: every two places of four alike; then alike in one number only, or the wrong way round.
+    for (std::size_t later = 1; later < 4; ++later)
+        for (std::size_t earlier = 0; earlier < later; ++earlier) {
+            set = p4();
+            set.job[later] = set.job[earlier];
+            sets.push_back(set);
+            set.execution[3] = 0;  // 3 comes before 4
+            sets.push_back(set);
+        }
+    set = p4();
+    set.job = {1, 1, 1, 1};
+    sets.push_back(set);
+    set.subtask = {1, 2, 3, 4};
+    sets.push_back(set);
+    set.subtask = {4, 3, 4, 3};
+    sets.push_back(set);
+    set.job = {1, 2, 2, 1};
+    set.subtask = {2, 1, 2, 1};
+    sets.push_back(set);
+    set.job = {0, LARGEST, 0, LARGEST};
+    set.subtask = {LARGEST, 0, 0, LARGEST};
+    sets.push_back(set);
+    set = p4();  // document 01: execution 0 at place 0 and equal pairs at 1 and 2
+    set.execution[0] = 0;
+    set.job[2] = set.job[1];
+    sets.push_back(set);
+    return sets;
+}
+
+static void assign_edges(Trial& trial, Dice& dice) {
+    trial.ask_assign({}, {});
+    for (const Set& set : {p2(), p3(), p4(), p5(), p6(), p7(), p8(), p9()})
+        trial.ask_assign(set, random_list(dice, set.job.size()));
+
+    std::vector<Set> sets = unequal_sets();
+    for (const Set& set : edge_sets()) sets.push_back(set);
+    for (const Set& set : sets) trial.ask_assign(set, random_list(dice, set.job.size()));
+    for (std::size_t length : {0, 3, 5, 129}) trial.ask_assign(p4(), random_list(dice, length));
+    trial.ask_assign({}, {7});
+    trial.ask_assign(many(129), random_list(dice, 128));
+    trial.ask_assign(many(128), random_list(dice, 129));
+
+    // The bound on both sides of the completion, by deadline and by critical time.
+    for (u32 deadline = 6; deadline <= 12; ++deadline)
+        for (u32 critical = 0; critical <= 3; ++critical) {
+            Set set = set_of({{2, 3, 40}, {4, 3, deadline}});
+            set.critical[1] = critical;
+            trial.ask_assign(set, {1, 2});
+            set.deadline[0] = deadline;
+            trial.ask_assign(set, {1, 2});
+        }
+    // Blocks that touch, overlap and part.
+    for (u32 release = 2; release <= 6; ++release)
+        for (u32 third = 5; third <= 9; ++third)
+            trial.ask_assign(set_of({{third, 2, 30}, {0, 4, 30}, {release, 3, 30}}), {9, 9, 9});
+}
+
+static void simulate_edges(Trial& trial, Dice& dice) {
+    const List local = {2, 9, 8, 7};  // P4's deadlines
+    trial.ask_simulate({}, {}, {}, {}, {});
+    for (const List& asks : {List{2, 1, 0, 5}, List{2, 2, 2, 1}, List{0, 0, 0, 0}, List{0, 0, 0, 1},
+                             List{LARGEST, LARGEST, LARGEST, LARGEST}, List{1, 0, 0, 0}})
+        for (const List& deadlines :
+             {local, List{0, 0, 0, 0}, List{LARGEST, LARGEST, LARGEST, LARGEST},
+              List{LARGEST, 0, LARGEST, 0}, List{9, 8, 7, 6}}) {
+            Set set = p4();
+            trial.ask_simulate(set, deadlines, asks, {1, 2, 3, 4}, {10, 20});
+            set.release = {4, 4, 4, 4};  // released together: only the order decides
+            trial.ask_simulate(set, deadlines, asks, {1, 2, 3, 4}, {10, 20});
+            set.job = {3, 3, 1, 1};  // ties by job, then subtask
+            set.subtask = {2, 1, LARGEST, 0};
+            trial.ask_simulate(set, deadlines, asks, {1, 2, 3, 4}, {10, 20});
+        }
+
+    // Number 8, on each side of the most, with P10's four busy and three idle ticks, with a run
+    // of no ticks, and with no sub-job at all.
+    for (u64 busy : {u64{0}, MOST_TICKS - 4, MOST_TICKS - 3, MOST_TICKS, MOST_TICKS + 1,
+                     LARGEST_64 - 3, LARGEST_64})
+        for (u64 idle : {u64{0}, MOST_TICKS - 3, MOST_TICKS - 2, MOST_TICKS, MOST_TICKS + 1,
+                         LARGEST_64 - 2, LARGEST_64}) {
+            trial.ask_simulate(p4(), local, {2, 1, 0, 5}, {5, 6, 7, 8}, {busy, idle});
+            trial.ask_simulate(p4(), local, {0, 0, 0, 0}, {5, 6, 7, 8}, {busy, idle});
+            trial.ask_simulate({}, {}, {}, {}, {busy, idle});
+        }
+
+    std::vector<Set> sets = unequal_sets();
+    for (const Set& set : edge_sets()) sets.push_back(set);
+    for (const Set& set : sets) {
+        const std::size_t n = set.job.size();
+        const List before = random_list(dice, n);
+        // 8 comes last.
+        const Totals totals = dice.chance(30) ? Totals{LARGEST_64, LARGEST_64} : Totals{1, 2};
+        trial.ask_simulate(set, set.deadline, List(n, 2), before, totals);
+    }
+    for (std::size_t length : {0, 3, 5, 129}) {
+        const List wrong = random_list(dice, length);
+        trial.ask_simulate(p4(), wrong, {1, 1, 1, 1}, {1, 2, 3, 4}, {3, 4});
+        trial.ask_simulate(p4(), local, wrong, {1, 2, 3, 4}, {3, 4});
+        trial.ask_simulate(p4(), local, {1, 1, 1, 1}, wrong, {3, 4});
+        trial.ask_simulate({}, wrong, {}, {}, {3, 4});
+    }
+
+    // Late releases, and a long idle stretch between two.
+    trial.ask_simulate(set_of({{1'000'000'000, 3, 9}, {1'000'000'000, 2, 9}}), {7, 6}, {3, 2},
+                       {0, 0}, {0, 0});
+    trial.ask_simulate(set_of({{1'000'000'000, 1'000'000, 9}}), {7}, {LARGEST}, {0}, {0, 0});
+    trial.ask_simulate(set_of({{5, 3, 9}, {1'000'000'000, 2, 9}}), {7, 6}, {0, 2}, {0, 0}, {0, 0});
+    trial.ask_simulate(set_of({{5, 3, 9}, {9'000'000, 2, 9}}), {7, 6}, {3, 2}, {0, 0},
+                       {0, MOST_TICKS - 8'999'997});
+    trial.ask_simulate(set_of({{5, 3, 9}, {9'000'000, 2, 9}}), {7, 6}, {3, 2}, {0, 0},
+                       {0, MOST_TICKS - 8'999'996});
+    // A long one broken into by many short ones.
+    Set set = set_of({{0, 400, 9}});
+    for (u32 k = 0; k < 60; ++k) {
+        set.job.push_back(9);
+        set.subtask.push_back(k);
+        set.release.push_back(7 * k + k % 3);
+        set.execution.push_back(1 + k % 4);
+        set.deadline.push_back(1000);
+        set.critical.push_back(0);
+    }
+    List deadlines(set.job.size(), 5);
+    deadlines[0] = 6;
+    trial.ask_simulate(set, deadlines, List(deadlines.size(), 1000), deadlines, {0, 0});
+}
+
+static void check_edges(Trial& trial, Dice& dice) {
+    trial.ask_check({}, {});
+    trial.ask_check({}, {3});
+    trial.ask_check(p4(), {2, 9, 8, 7});
+    trial.ask_check(p5(), {7, 7});  // P11
+    trial.ask_check(p5(), {3, 7});
+    trial.ask_check(p8(), {3, 2});  // P12
+    trial.ask_check(p7(), {0});
+    trial.ask_check(p7(), {1});
+    trial.ask_check(p7(), {LARGEST});
+
+    // Every proposal around P5 and around a set of equal deadlines.
+    for (u32 first = 3; first <= 8; ++first)
+        for (u32 second = 6; second <= 11; ++second) trial.ask_check(p5(), {first, second});
+    for (u32 first = 1; first <= 6; ++first)
+        for (u32 second = 2; second <= 6; ++second) trial.ask_check(p6(), {first, second});
+    for (u32 k = 0; k < 81; ++k)
+        trial.ask_check(set_of({{0, 2, 6}, {1, 2, 6}, {1, 1, 5}, {3, 1, 6}}),
+                        {2 + k % 3, 3 + k / 3 % 3, 2 + k / 9 % 3, 4 + k / 27});
+
+    std::vector<Set> sets = unequal_sets();
+    for (const Set& set : edge_sets()) sets.push_back(set);
+    for (const Set& set : sets) trial.ask_check(set, List(set.job.size(), 200));
+    for (const Set& set : edge_sets()) {
+        if (set.job.size() > 4) continue;
+        trial.ask_check(set, random_proposal(dice, set));
+    }
+    for (std::size_t length : {0, 3, 5, 129}) trial.ask_check(p4(), random_list(dice, length));
+    for (u32 deadline : {130u, 131u, 132u, 500u, 501u})
+        trial.ask_check(many(128), List(128, deadline));
+}
+
+// ---------------------------------------------------------------- random cases
+
+// Mostly small, some so large that they are placed by tails, a few around 128.
+static std::size_t random_count(Dice& dice) {
+    const u32 roll = dice.below(1000);
+    if (roll < 20) return 0;
+    if (roll < 750) return dice.between(1, 7);
+    if (roll < 930) return dice.between(8, 12);
+    if (roll < 985) return dice.between(13, 40);
+    if (roll < 993) return dice.between(41, 127);
+    return dice.between(128, 130);
+}
+
+static Set random_case(Dice& dice) {
+    const std::size_t n = random_count(dice);
+    Set set = dice.chance(6) ? set_at_range_ends(dice, std::min<std::size_t>(n, 20))
+                             : random_set(dice, n);
+    while (!set.job.empty() && dice.chance(12)) make_wrong(dice, set);
+    return set;
+}
+
+// One of the lists made longer or shorter.
+static void make_unequal(Dice& dice, const std::vector<List*>& all) {
+    List& list = *all[dice.below(static_cast<u32>(all.size()))];
+    const std::size_t length = list.size();
+    if (dice.chance(50))
+        list.resize(length + 1 + dice.below(3), 1);
+    else
+        list.resize(length - std::min<std::size_t>(length, 1));
+}
+
+static std::vector<List*> with(Set& set, std::vector<List*> others) {
+    for (List* list : lists(set)) others.push_back(list);
+    return others;
+}
+
+static void random_assign(Trial& trial, Dice& dice) {
+    Set set = random_case(dice);
+    List before = random_list(dice, set.job.size());
+    if (dice.chance(3)) make_unequal(dice, with(set, {&before}));
+    trial.ask_assign(set, before);
+}
+
+static List random_deadlines(Dice& dice, const Set& set) {
+    List deadlines(set.job.size());
+    const u32 way = dice.below(5);
+    for (u32& deadline : deadlines) {
+        if (way == 0) deadline = dice.below(3);
+        if (way == 1) deadline = dice.below(40);
+        if (way == 2) deadline = dice.one_of({0, 1, LARGEST - 1, LARGEST});
+    }
+    if (way == 3) deadlines = set.deadline;
+    if (way == 4) assign(set, deadlines);
+    return deadlines;
+}
+
+static List random_asks(Dice& dice, const Set& set) {
+    List asks = set.execution;
+    const u32 way = dice.below(4);
+    for (u32& ask : asks) {
+        if (way == 1) ask = dice.below(7);
+        if (way == 2) ask = dice.one_of({0, 1, LARGEST});
+        if (way == 3 && dice.chance(30)) ask = 0;
+    }
+    return asks;
+}
+
+static u64 random_total(Dice& dice) {
+    const u32 roll = dice.below(20);
+    if (roll == 0) return MOST_TICKS - dice.below(60);
+    if (roll == 1) return LARGEST_64 - dice.below(60);
+    return dice.below(1000);
+}
+
+static void random_simulate(Trial& trial, Dice& dice) {
+    Set set = random_case(dice);
+    List deadlines = random_deadlines(dice, set);
+    List asks = random_asks(dice, set);
+    List before = random_list(dice, set.job.size());
+    Totals totals;
+    totals.busy = random_total(dice);
+    totals.idle = random_total(dice);
+    if (dice.chance(3)) make_unequal(dice, with(set, {&deadlines, &asks, &before}));
+    trial.ask_simulate(set, deadlines, asks, before, totals);
+}
+
+static void random_check(Trial& trial, Dice& dice) {
+    Set set = random_case(dice);
+    List proposed = random_proposal(dice, set);
+    if (dice.chance(3)) make_unequal(dice, with(set, {&proposed}));
+    trial.ask_check(set, proposed);
+}
+
+// Numbers with leading zeros and in quotes here and there, which changes nothing.
+static std::string random_field(Dice& dice, u32 number, u32 adorned) {
+    std::string field = std::to_string(number);
+    if (dice.chance(adorned)) field.insert(0, dice.below(11 - static_cast<u32>(field.size())), '0');
+    if (dice.chance(adorned)) field = '"' + field + '"';
+    return field;
+}
+
+static std::string random_text(Dice& dice, Set& set) {
+    const u32 adorned = dice.one_of({0, 10, 60});
+    std::string text = TABLE_HEADER;
+    for (std::size_t place = 0; place < set.job.size(); ++place) {
+        text += "\r\n";
+        for (const List* list : lists(set))
+            text += random_field(dice, (*list)[place], adorned) + ',';
+        text.pop_back();
+    }
+    if (dice.chance(70)) text += "\r\n";
+    return text;
+}
+
+// One byte lost, changed or added, or the text cut short; mostly behind the header.
+static void damage(Dice& dice, std::string& text) {
+    static constexpr char strange[] = "0123456789,,\"\"\r\n\r\n +-.xX\t\0\x7F\x80\xB2\xFF";
+    const u32 length = static_cast<u32>(text.size());
+    const u32 header = static_cast<u32>(TABLE_HEADER.size());
+    const u32 at =
+        dice.chance(90) && length > header ? dice.between(header, length - 1) : dice.below(length);
+    const char byte = strange[dice.below(sizeof strange - 1)];
+    switch (dice.below(8)) {
+    case 0:
+    case 1: text.erase(at, 1); break;
+    case 2:
+    case 3:
+    case 4: text[at] = byte; break;
+    case 5:
+    case 6: text.insert(at, 1, byte); break;
+    default: text.resize(at);
+    }
+}
+
+static void random_table(Trial& trial, Dice& dice) {
+    Set set = random_set(dice, std::min<std::size_t>(random_count(dice), 60));
+    while (!set.job.empty() && dice.chance(8)) make_wrong(dice, set);
+    std::string text = random_text(dice, set);
+    while (!text.empty() && dice.chance(35)) damage(dice, text);
+    trial.ask_table(text);
+}
+
+// ---------------------------------------------------------------- the command
+
+static void write_file(const std::filesystem::path& path, const std::string& text) {
+    std::ofstream file(path, std::ios::binary);
+    file << text;
+    file.close();
+    if (!file) throw std::runtime_error("cannot write " + path.string());
+}
+
+int write_cases(const std::string& folder) {
+    Trial trial;
+    Dice dice(20'240'601);
+    assign_edges(trial, dice);
+    simulate_edges(trial, dice);
+    check_edges(trial, dice);
+    for (const NamedText& named : named_texts()) trial.ask_table(named.text);
+    for (const std::string& text : further_texts()) trial.ask_table(text);
+    for (int k = 0; k < 480; ++k) {
+        random_assign(trial, dice);
+        random_simulate(trial, dice);
+        random_check(trial, dice);
+        random_table(trial, dice);
+    }
+    trial.ask_end();
+
+    const std::filesystem::path top(folder);
+    std::filesystem::create_directories(top / "tables");
+    write_file(top / "trial.stdin", trial.in);
+    write_file(top / "trial.stdout", trial.out);
+    for (const auto& [name, text] : named_texts()) {
+        write_file(top / "tables" / (name + ".in"), text);
+        write_file(top / "tables" / (name + ".out"), table(text));
+    }
+
+    const std::size_t bytes = trial.in.size() + trial.out.size();
+    std::cout << "assign " << trial.count[1] << ", simulate " << trial.count[2] << ", check "
+              << trial.count[3] << ", table " << trial.count[4] << " cases; " << bytes << " bytes; "
+              << named_texts().size() << " tables\n";
+    if (bytes >= 900'000) {
+        std::cerr << "the stored cases are to stay under 900,000 bytes\n";
+        return 1;
+    }
+    return 0;
+}

@@ -1,0 +1,39 @@
+// The second program: document 01 once more, independently of the library, to hold it to.
+#include "commands.hpp"
+
+#include <cstdlib>
+#include <iostream>
+#include <sstream>
+
+static int usage() {
+    std::cerr
+        << "second self                          check this program against document 01\n"
+           "second cases DIR                     write the cases of trial and of deadlines\n"
+           "second door COUNT SEED [RUNNER ..]   compare COUNT door calls with the archive;\n"
+           "                                     RUNNER is the command that starts the runner\n"
+           "                                     (or stands in CHAROKTAN_RUNNER)\n";
+    return 2;
+}
+
+// The runner's command: the words behind COUNT and SEED, or those of the variable.
+static std::vector<std::string> runner_command(const std::vector<std::string>& words) {
+    if (words.size() > 4) return {words.begin() + 4, words.end()};
+    const char* variable = std::getenv("CHAROKTAN_RUNNER");
+    std::istringstream stream(variable ? variable : "");
+    std::vector<std::string> command;
+    for (std::string word; stream >> word;) command.push_back(word);
+    return command;
+}
+
+int main(int count, char** arguments) try {
+    const std::vector<std::string> words(arguments, arguments + count);
+    if (words.size() == 2 && words[1] == "self") return check_self();
+    if (words.size() == 3 && words[1] == "cases") return write_cases(words[2]);
+    if (words.size() >= 4 && words[1] == "door")
+        if (const auto runner = runner_command(words); !runner.empty())
+            return compare_door(std::stoull(words[2]), std::stoull(words[3]), runner);
+    return usage();
+} catch (const std::exception& error) {
+    std::cerr << "second: " << error.what() << "\n";
+    return 1;
+}

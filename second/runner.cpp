@@ -1,0 +1,102 @@
+// The thin side of the door comparison: an x86-64 program around libcharoktan.a. It reads batches
+// of calls from standard input, makes them, and writes what was returned and what the slices hold.
+//
+// Each slice lies in a room of its own between two guard rooms that may not be touched, pressed to
+// the end of its room or to the start of it as the call asks: a read or write by the archive
+// outside the slice ends this program. The pipe's form is told in door.cpp.
+#include <cstddef>
+#include <cstdint>
+#include <cstdio>
+#include <cstdlib>
+#include <cstring>
+#include <vector>
+
+#include <sys/mman.h>
+
+extern "C" {
+std::uint32_t charoktan_assign(const std::uint8_t* records, std::size_t records_len,
+                               std::uint8_t* deadlines, std::size_t deadlines_len);
+std::uint32_t charoktan_check(const std::uint8_t* records, std::size_t records_len,
+                              const std::uint8_t* deadlines, std::size_t deadlines_len);
+}
+
+[[noreturn]] static void fail(const char* why) {
+    std::fprintf(stderr, "runner: %s\n", why);
+    std::exit(3);
+}
+
+// 64 KiB is a multiple of every page size in use, also of an emulator's host.
+static constexpr std::size_t ROOM = 65'536;
+
+class GuardedRoom {
+public:
+    GuardedRoom() {
+        void* all = mmap(nullptr, 4 * ROOM, PROT_NONE, MAP_PRIVATE | MAP_ANONYMOUS, -1, 0);
+        if (all == MAP_FAILED) fail("no memory");
+        const auto address = reinterpret_cast<std::uintptr_t>(all);
+        start_ = static_cast<std::uint8_t*>(all) + (2 * ROOM - address % ROOM);
+        if (mprotect(start_, ROOM, PROT_READ | PROT_WRITE) != 0) fail("no guards");
+    }
+
+    std::uint8_t* place(const std::uint8_t* bytes, std::size_t length, bool at_end) {
+        if (length > ROOM) fail("a slice is too long");
+        std::uint8_t* slice = at_end ? start_ + ROOM - length : start_;
+        if (length > 0) std::memcpy(slice, bytes, length);
+        return slice;
+    }
+
+private:
+    std::uint8_t* start_ = nullptr;
+};
+
+static std::uint32_t number_at(const std::uint8_t* bytes) {
+    std::uint32_t number;
+    std::memcpy(&number, bytes, sizeof number);  // x86-64 is little-endian, as the pipe is
+    return number;
+}
+
+static void append(std::vector<std::uint8_t>& bytes, const void* more, std::size_t length) {
+    const auto* from = static_cast<const std::uint8_t*>(more);
+    bytes.insert(bytes.end(), from, from + length);
+}
+
+// Makes the call at `at`, appends its reply and returns where the next call starts.
+static std::size_t make_call(const std::vector<std::uint8_t>& batch, std::size_t at,
+                             std::vector<std::uint8_t>& replies) {
+    static GuardedRoom records_room, deadlines_room;
+    if (batch.size() - at < 16) fail("a batch is cut off");
+    const std::uint32_t kind = number_at(&batch[at]), placement = number_at(&batch[at + 4]);
+    const std::size_t records_len = number_at(&batch[at + 8]);
+    const std::size_t deadlines_len = number_at(&batch[at + 12]);
+    if (batch.size() - at - 16 < records_len + deadlines_len) fail("a batch is cut off");
+
+    const std::uint8_t* bytes = batch.data() + at + 16;
+    std::uint8_t* records = records_room.place(bytes, records_len, placement & 1);
+    std::uint8_t* deadlines =
+        deadlines_room.place(bytes + records_len, deadlines_len, placement & 2);
+    // An empty slice may be passed as null.
+    if (placement & 4 && records_len == 0) records = nullptr;
+    if (placement & 4 && deadlines_len == 0) deadlines = nullptr;
+
+    const std::uint32_t returned =
+        kind == 1 ? charoktan_assign(records, records_len, deadlines, deadlines_len)
+                  : charoktan_check(records, records_len, deadlines, deadlines_len);
+    append(replies, &returned, sizeof returned);
+    append(replies, records, records_len);
+    append(replies, deadlines, deadlines_len);
+    return at + 16 + records_len + deadlines_len;
+}
+
+int main() {
+    std::uint8_t length[4];
+    while (std::fread(length, 1, 4, stdin) == 4) {
+        std::vector<std::uint8_t> batch(number_at(length)), replies;
+        if (std::fread(batch.data(), 1, batch.size(), stdin) != batch.size())
+            fail("a batch is cut off");
+        for (std::size_t at = 0; at < batch.size();) at = make_call(batch, at, replies);
+        if (std::fwrite(replies.data(), 1, replies.size(), stdout) != replies.size() ||
+            std::fflush(stdout) != 0)
+            fail("nobody reads the replies");
+    }
+    return 0;
+}
