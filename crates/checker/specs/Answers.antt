@@ -5,7 +5,7 @@
 --   values a      == document 01's number and values of an answer: 0, or the reason's
 --   answer s ds   == the answer for the set s and the proposed deadlines ds
 use Prim.Native.Nat.{ℕ, _+_}
-use mathlib.Core.Bool.{Bool, cond, _&&_}
+use mathlib.Core.Bool.{cond, _&&_}
 use mathlib.Core.List.{List, [], _∷_}
 use lib.Dec.{leb, eqb}
 use lib.IntN.{ℤ, pos}

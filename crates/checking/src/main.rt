@@ -1,20 +1,13 @@
 // P11 and P12 through `check`, with proposals at both ends of (6), of (7) and of 32 bits. A line per case: the set, the
 // proposed deadlines, and the answer, of a refusal its number and place.
 use checker::Answer;
-
-// Writes bytes as they are.
-fn say(text: &[u8]) {
-    io::write_all(libc::STDOUT_FILENO, text);
-}
-
-fn wide(x: u32) -> u64 {
-    x as u64
-}
+use saying::say;
+use saying::wide;
 
 // Writes a space and a number.
 fn number(x: u32) {
     say(b" ");
-    io::print_decimal(libc::STDOUT_FILENO, wide(x));
+    saying::number(wide(x));
 }
 
 fn answer(a: Answer) {
@@ -24,7 +17,7 @@ fn answer(a: Answer) {
             say(b": refused");
             number(subjobs::number_of(reason));
             say(b" at place ");
-            io::print_decimal(libc::STDOUT_FILENO, subjobs::place_of(reason) as u64);
+            saying::number(subjobs::place_of(reason) as u64);
             say(b"\n");
         }
     }

@@ -99,14 +99,6 @@ module _ (lt : ℕ → ℕ → Bool) (o : Order lt) where
       let q : ahead lt x xs ≡ b = cc in
       rw (← q) (in-cons m (λ e. ahead-first x xs (inl e)) (λ t. ahead-first x xs (inr t)))
 
-  -- The one that comes before all others is the one chosen.
-  pub chosen-is :
-      (xs : List ℕ) {b : ℕ} → List·Memᴰ b xs → ((i : ℕ) → List·Memᴰ i xs → (i ≡ b) ⊎ (lt b i ≡ true)) → choose lt xs ≡ some b
-  chosen-is xs {b} m f =
-      split (choose-cases lt xs)
-      (λ w. in-nil (rw (w .0) at m))
-      (λ w. split (f (w .0) (w .1)) (λ e. w .2 ∙ rw e) (λ h. clash h (chosen-first xs (w .2) m)))
-
   -- In a total order all others come after the one chosen; so the choice by the reversed order is the last of all.
   pub chosen-before :
       (xs : List ℕ) → Total lt xs → {b : ℕ} → choose lt xs ≡ some b → (i : ℕ) → List·Memᴰ i xs → (i ≡ b) ⊎ (lt b i ≡ true)

@@ -76,10 +76,6 @@ weight-out f b (x ∷ xs) m =
     is : not (eqb x b) ≡ false → x ≡ b
     is e = test (eqb x b) (λ y. omega tests) (λ n. clash (rw n) e)
 
-pub least-one : (f : ℕ → ℕ) (x : ℕ) → least f (x ∷ []) ≡ f x
-unfolding least
-least-one f x = refl
-
 -- The least is at most each member's, and is some member's.
 pub least-le : (f : ℕ → ℕ) (xs : List ℕ) {i : ℕ} → List·Memᴰ i xs → least f xs ≤ f i
 unfolding least

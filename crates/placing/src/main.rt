@@ -1,59 +1,33 @@
 // Runs document 01's cases P1 to P9 and the four cores of the paper's table 2 through the assignment, and prints what
 // comes out, one line each.
-use libc::STDOUT_FILENO;
 use olda::Answer;
+use saying::number;
+use saying::say;
+use saying::signed;
 use subjobs::Reason;
-
-fn say(text: &[u8]) {
-    io::write_all(STDOUT_FILENO, text);
-}
-
-fn say_number(x: u64) {
-    io::print_decimal(STDOUT_FILENO, x);
-}
-
-fn say_signed(x: i64) {
-    if x < 0 {
-        say(b"-");
-        say_number((-1 - x) as u64 + 1);
-    } else {
-        say_number(x as u64);
-    }
-}
 
 fn say_reason(reason: Reason) {
     say(b"refused ");
-    say_number(subjobs::number_of(reason) as u64);
+    number(subjobs::number_of(reason) as u64);
     say(b", place ");
-    say_number(subjobs::place_of(reason) as u64);
+    number(subjobs::place_of(reason) as u64);
     say(b", completion ");
-    say_number(subjobs::completion_of(reason) as u64);
+    number(subjobs::completion_of(reason) as u64);
     say(b", bound ");
-    say_signed(subjobs::bound_of(reason));
+    signed(subjobs::bound_of(reason));
 }
 
 fn say_answer(answer: Answer) {
     match answer {
         Answer::Placed(report) => {
             say(b"least slack ");
-            say_signed(report.slack);
+            signed(report.slack);
             say(b" at place ");
-            say_number(report.place as u64);
+            number(report.place as u64);
         }
         Answer::Nothing => say(b"nothing to place"),
         Answer::Refused(reason) => say_reason(reason),
     }
-}
-
-// The numbers of a list, and the end of the line.
-fn say_list(list: &[u32]) {
-    let mut i = 0;
-    while i < list.len() {
-        say(b" ");
-        say_number(list[i] as u64);
-        i += 1;
-    }
-    say(b"\n");
 }
 
 // One call of the assignment. All subtasks are 1.
@@ -79,7 +53,7 @@ fn show(
         out,
     ));
     say(b"; deadlines");
-    say_list(out);
+    saying::list(out);
 }
 
 fn one(label: &[u8], release: u32, execution: u32, deadline: u32, critical: u32) {

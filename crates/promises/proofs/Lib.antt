@@ -1,7 +1,9 @@
 pub mod Table
 pub mod Assignment
 pub mod Core
+pub mod Runs
 pub mod Peel
 pub mod Exact
 pub mod Demand3
+pub mod Text
 pub mod Outcomes

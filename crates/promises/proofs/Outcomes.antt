@@ -1,31 +1,37 @@
 -- The proofs of what holds of every public entry.
-use Prim.Native.Nat.{ℕ, _+_}
+use Prim.Native.Nat.{ℕ}
 use mathlib.Core.List.{List}
-use mathlib.Core.Path.{_≡_, refl, sym, _∙_}
+use mathlib.Core.Path.{_≡_, refl, sym, _∙_, ap}
 use native.Mathlib.Omega.{arith}
 use lib.Dec.{eqb}
 use lib.ListN.{length, getD}
-use Rattle.lists.specs.Places.{places}
-use Rattle.lists.proofs.Cases.{split}
-use Rattle.lists.proofs.Choice.{choose-cases}
+use Rattle.lists.proofs.Cases.{both}
 use Rattle.subjobs.specs.declared.Reason.{Reason}
 use Rattle.subjobs.specs.declared.Judgement.{Judgement}
 use Rattle.subjobs.specs.declared.Judgement.the-variants as judged
-use Rattle.subjobs.specs.Sets.{Subjobs, size, deadline, critical, byBound}
+use Rattle.subjobs.specs.Sets.{Subjobs, size, release, execution, job, subtask}
 use Rattle.subjobs.specs.Judging.{judgement, ifPassed}
-use Rattle.olda.specs.declared.Answer.the-variants.{Refused}
+use Rattle.olda.specs.declared.Answer.the-variants.{Refused, Placed}
 use Rattle.olda.specs.Method.{Outcome, placed, stuck, method}
 use Rattle.olda.specs.Answers as olda
+use Rattle.olda.specs.declared.Report as olda-report
+use Rattle.edf.specs.declared.Report as edf-report
+use Rattle.edf.specs.declared.Answer.the-variants as running
+use Rattle.subjobs.specs.declared.Reason.the-variants as reason
 use Rattle.edf.specs.Answers as edf
-use Rattle.promises.specs.Outcomes.{RefusedKeeps, OneOutcome}
-
--- A report is never a refusal.
-never-refused : {X : Type 0} (s : Subjobs) (d : ℕ → ℕ) (r : Reason) → olda.report s d ≡ Refused r → X
-unfolding olda.report
-never-refused s d r e =
-    split (choose-cases (byBound (deadline s) (λ i. critical s i + d i)) (places (size s)))
-    (λ w. let h = rw (w .1) at e in let z : _≡_ {A = ℕ} 0 1 = cc in absurd (omega arith))
-    (λ w. let h = rw (w .2) at e in let z : _≡_ {A = ℕ} 0 1 = cc in absurd (omega arith))
+use Rattle.checker.specs.Answers as checker
+use Rattle.table.specs.Answers as table
+use Rattle.promises.specs.Outcomes.{RefusedKeeps, WritesAll, One, OneOutcome}
+use Rattle.olda.proofs.Results.{never-refused, results-length}
+use borrow.Author.Tests.{eqb-true}
+use mathlib.Core.Bool.{cond, _&&_}
+use Rattle.subjobs.proofs.Fit.{fit}
+use Rattle.edf.proofs.Finishes.{run-length}
+use Rattle.edf.specs.Runs.{owed, sooner}
+use Rattle.edf.specs.declared.Answer.the-variants.{Ran}
+use Rattle.edf.specs.declared.Totals.{Totals}
+use Rattle.promises.proofs.Assignment.{accepted-placed}
+use Rattle.promises.specs.Assignment.{accepted}
 
 placing-keeps :
     (s : Subjobs) (j : Judgement) (o : Outcome) (out : List ℕ) (r : Reason)
@@ -40,5 +46,61 @@ unfolding olda.answer olda.results edf.finishes edf.totals
 refused-keeps =
     (λ s out r e. placing-keeps s (judgement s (eqb (length out) (size s))) (method s) out r e, λ s ds asks fs t r e. (rw e, rw e))
 
+-- An accepted set's result list is what the method placed, whatever the list held.
+placed-alike :
+    (s : Subjobs) (out old : List ℕ) (r : olda-report.Report)
+    → olda.answer s (length out) ≡ Placed r
+    → length old ≡ length out
+    → olda.results s out ≡ olda.results s old
+placed-alike s out old r e l =
+    let a = accepted-placed s out (ap accepted e) in
+    let q : olda.answer s (length old) ≡ Placed r = rw l e in
+    let b = accepted-placed s old (ap accepted q) in
+    cc
+
+-- A run that was accepted passed refusals 1 to 4, with a list of finishes as long as the set.
+ran-length :
+    (s : Subjobs) (ds asks : List ℕ) (n : ℕ) (t : Totals) (r : edf-report.Report)
+    → edf.answer s ds asks n t ≡ Ran r
+    → n ≡ size s
+unfolding edf.answer
+ran-length s ds asks n t r e = by-judgement (judgement s (edf.furtherLists s ds asks n)) refl e
+  where
+    by-judgement :
+        (j : Judgement)
+        → judgement s (edf.furtherLists s ds asks n) ≡ j
+        → ifPassed j
+        (cond (edf.above (edf.added (edf.run s ds asks) t)) (running.Refused reason.Totals) (Ran (record { end = edf.run s ds asks .end })))
+        running.Refused
+        ≡ Ran r
+        → n ≡ size s
+    by-judgement (judged.Refused q) p h = let z : _≡_ {A = ℕ} 0 1 = cc in absurd (omega arith)
+    by-judgement judged.Passed p h =
+        eqb-true n (size s)
+        (both {a = eqb (length ds) (size s) && eqb (length asks) (size s)} {b = eqb n (size s)}
+        (fit s (edf.furtherLists s ds asks n) p .lengths .further) .1)
+
+pub writes-all : WritesAll
+unfolding edf.finishes
+writes-all = (
+  λ s out old r e l. (placed-alike s out old r e l, results-length s out),
+  λ s ds asks fs old t r e l. (
+    rw (e, l, e),
+    rw e
+        (run-length (release s) (owed (execution s) (λ i. getD asks i 0)) (sooner (λ i. getD ds i 0) (job s) (subtask s)) (size s)
+        ∙ sym (ran-length s ds asks (length fs) t r e)),
+  ),
+)
+
+-- The one law, for each entry.
+one : {A : Type 0} (stated : A) → One A stated
+one stated a b p q = p ∙ sym q
+
 pub one-outcome : OneOutcome
-one-outcome A stated one other p q = p ∙ sym q
+one-outcome = (
+  λ s others. one (judgement s others),
+  λ s out. (one (olda.answer s (length out)), one (olda.results s out)),
+  λ s ds asks fs t. (one (edf.answer s ds asks (length fs) t), one (edf.totals s ds asks (length fs) t), one (edf.finishes s ds asks fs t)),
+  λ s ds. one (checker.answer s ds),
+  λ text out. (one (table.written text (length out)), one (table.outcome text out)),
+)

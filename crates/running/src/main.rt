@@ -3,47 +3,29 @@
 use edf::Answer;
 use edf::Simulated;
 use edf::Totals;
-use libc::STDOUT_FILENO;
-
-fn say(text: &[u8]) {
-    io::write_all(STDOUT_FILENO, text);
-}
-
-fn say_number(x: u64) {
-    io::print_decimal(STDOUT_FILENO, x);
-}
+use saying::number;
+use saying::say;
 
 fn say_answer(answer: Answer) {
     match answer {
         Answer::Ran(report) => {
             say(b"ran to ");
-            say_number(report.end as u64);
+            number(report.end as u64);
         }
         Answer::Refused(reason) => {
             say(b"refused ");
-            say_number(subjobs::number_of(reason) as u64);
+            number(subjobs::number_of(reason) as u64);
             say(b", place ");
-            say_number(subjobs::place_of(reason) as u64);
+            number(subjobs::place_of(reason) as u64);
         }
     }
 }
 
 fn say_totals(totals: Totals) {
     say(b"; busy ");
-    say_number(totals.busy);
+    number(totals.busy);
     say(b", idle ");
-    say_number(totals.idle);
-}
-
-// The numbers of a list, and the end of the line.
-fn say_list(list: &[u32]) {
-    let mut i = 0;
-    while i < list.len() {
-        say(b" ");
-        say_number(list[i] as u64);
-        i += 1;
-    }
-    say(b"\n");
+    number(totals.idle);
 }
 
 fn say_run(label: &[u8], simulated: Simulated, finishes: &[u32]) {
@@ -54,7 +36,7 @@ fn say_run(label: &[u8], simulated: Simulated, finishes: &[u32]) {
     say_answer(answer);
     say_totals(totals);
     say(b"; finishes");
-    say_list(finishes);
+    saying::list(finishes);
 }
 
 // The set of document 01's example, with deadlines and asks.

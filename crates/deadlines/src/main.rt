@@ -1,0 +1,4 @@
+// The table program.
+fn main() {
+    desk::serve();
+}

@@ -1,0 +1,4 @@
+// The table program, run on nothing.
+fn main() {
+    desk::serve();
+}

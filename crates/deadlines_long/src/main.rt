@@ -1,0 +1,4 @@
+// The table program, run on 16,385 bytes.
+fn main() {
+    desk::serve();
+}

@@ -1,0 +1,65 @@
+-- What is promised of a run's numbers: they are the single-tick core's own, so none can be invented.
+--
+--   turn s ds asks t  == who is served in tick t
+--   FinishIsLastTick  == a finish is the end of the last tick served
+--   OwedNothing       == one that is owed nothing finishes at its release
+--   BusyIsOwed        == busy is the sum of what is owed
+--   TicksAreTheEnd    == busy plus idle is the end
+--   RunsAddUp         == two runs' totals add up
+use Prim.Native.Nat.{ℕ, suc, _+_, _≤_, _<_}
+use mathlib.Core.List.{List}
+use mathlib.Core.Logic.{_≢_}
+use mathlib.Core.Option.{Option, some}
+use mathlib.Core.Path.{_≡_}
+use lib.ListN.{getD}
+use Rattle.lists.specs.Places.{places, weight}
+use Rattle.subjobs.specs.Sets.{Subjobs, size, job, subtask, release}
+use Rattle.edf.specs.declared.Answer.the-variants.{Ran}
+use Rattle.edf.specs.declared.Report.{Report}
+use Rattle.edf.specs.declared.Totals.{Totals}
+use Rattle.edf.specs.Core.{pick, after}
+use Rattle.edf.specs.Runs.{sooner}
+use Rattle.edf.specs.Answers.{run, answer, totals}
+use Rattle.promises.specs.Core.{Passes, due, finish}
+
+abbrev pub turn : Subjobs → List ℕ → List ℕ → ℕ → Option ℕ
+turn s ds asks t =
+    pick (release s) (due s asks) (sooner (λ j. getD ds j 0) (job s) (subtask s)) (places (size s)) t
+    (after (release s) (due s asks) (sooner (λ j. getD ds j 0) (job s) (subtask s)) (places (size s)) t .served)
+
+-- The finish of one that is owed something is the end of the last tick served to it: that tick is served to it, and no
+-- later one is.
+abbrev pub FinishIsLastTick : Type 0
+FinishIsLastTick =
+    (s : Subjobs) (ds asks : List ℕ)
+    → Passes s
+    → (i : ℕ)
+    → i < size s
+    → 0 < due s asks i
+    → (k : ℕ)
+    × (suc k ≡ finish s ds asks i)
+    × (turn s ds asks k ≡ some i)
+    × ((t : ℕ) → finish s ds asks i ≤ t → turn s ds asks t ≢ some i)
+
+-- The finish of one that is owed nothing is its release.
+abbrev pub OwedNothing : Type 0
+OwedNothing =
+    (s : Subjobs) (ds asks : List ℕ) (i : ℕ) → i < size s → due s asks i ≡ 0 → finish s ds asks i ≡ release s i
+
+-- Busy is the sum of what is owed.
+abbrev pub BusyIsOwed : Type 0
+BusyIsOwed = (s : Subjobs) (ds asks : List ℕ) → Passes s → run s ds asks .busy ≡ weight (due s asks) (places (size s))
+
+-- Busy plus idle is the end of the run.
+abbrev pub TicksAreTheEnd : Type 0
+TicksAreTheEnd = (s : Subjobs) (ds asks : List ℕ) → Passes s → run s ds asks .busy + run s ds asks .idle ≡ run s ds asks .end
+
+-- The totals of two accepted runs, one after the other, hold the ticks of both.
+abbrev pub RunsAddUp : Type 0
+RunsAddUp =
+    (s s′ : Subjobs) (ds asks ds′ asks′ : List ℕ) (n n′ : ℕ) (t : Totals) (p p′ : Report)
+    → answer s ds asks n t ≡ Ran p
+    → answer s′ ds′ asks′ n′ (totals s ds asks n t) ≡ Ran p′
+    → _≡_ {A = Totals}
+    (totals s′ ds′ asks′ n′ (totals s ds asks n t))
+    (record { busy = t .busy + run s ds asks .busy + run s′ ds′ asks′ .busy; idle = t .idle + run s ds asks .idle + run s′ ds′ asks′ .idle })

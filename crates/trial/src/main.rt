@@ -1,0 +1,23 @@
+// The trial: it reads cases of every public entry and prints the answers, with the lists as they are
+// afterwards. Its `stdin` and `stdout` are written by the second program, which shares no code with
+// the library, so the gate holds the one to the other.
+ghost use mathlib.Core.Path.{_≡_};
+ghost use lib.ListN.{length};
+
+mod cases;
+mod printing;
+mod reading;
+
+fn main() {
+    let mut text = room();
+    let n = io::read_full(libc::STDIN_FILENO, &mut text);
+    cases::all(&text[..n]);
+}
+
+// Room for every case, a mebibyte. The `ensures` gives only its length: a proof that saw the zeros
+// would count them.
+fn room() -> [u8; 1048576]
+    ensures { λ r. ⌜ 1048576 ≡ length r ⌝ }
+{
+    [0; 1048576]
+}

@@ -1,0 +1,47 @@
+// Answers as text on standard output.
+use saying::say;
+use saying::wide;
+use subjobs::Reason;
+
+// A space and a number.
+pub(crate) fn number(n: u64) {
+    say(b" ");
+    saying::number(n);
+}
+
+// A space and a signed number.
+pub(crate) fn signed(x: i64) {
+    say(b" ");
+    saying::signed(x);
+}
+
+// A colon and the numbers of a list, which end a line.
+pub(crate) fn list(numbers: &[u32]) {
+    say(b" :");
+    saying::list(numbers);
+}
+
+// The count of the first bytes of a text, and these bytes, each with a line end behind it.
+pub(crate) fn start(text: &[u8], n: usize) {
+    if n <= text.len() {
+        saying::number(n as u64);
+        say(b"\n");
+        say(&text[0..n]);
+        say(b"\n");
+    }
+}
+
+// A refusal: its number and place, for number 3 the field, for number 5 completion and bound.
+pub(crate) fn refusal(reason: Reason) {
+    let no = subjobs::number_of(reason);
+    say(b"refused");
+    number(wide(no));
+    number(subjobs::place_of(reason) as u64);
+    if no == 3 {
+        number(wide(subjobs::field_of(reason)));
+    }
+    if no == 5 {
+        number(wide(subjobs::completion_of(reason)));
+        signed(subjobs::bound_of(reason));
+    }
+}
