@@ -24,7 +24,7 @@ pub column-more :
 unfolding column
 column-more bs out w k i v h e q = rw (add-one, take-suc-set out i v h, e, q)
 
-length-encoded : (vs : List ℕ) → length (encoded vs) ≡ 4 * length vs
+pub length-encoded : (vs : List ℕ) → length (encoded vs) ≡ 4 * length vs
 unfolding encoded
 length-encoded [] = refl
 length-encoded (v ∷ vs) = omega (arith, length-append (bytes v) (encoded vs), length-encoded vs)
@@ -62,16 +62,16 @@ pub records-are :
 unfolding records
 records-are bs n js ks rs cs ds zs h q = rw (q .0, q .1, q .2, q .3, q .4, q .5, h)
 
--- The numbers of refusals are small.
-pub number-most : (r : Reason) → numberOf r ≤ 12
-number-most Lengths = omega arith
-number-most TooMany = omega arith
-number-most (Range p f) = omega arith
-number-most (Pair p) = omega arith
-number-most (Late p m b) = omega arith
-number-most (Unmet p) = omega arith
-number-most (Missed p) = omega arith
-number-most Totals = omega arith
-number-most TextTooLong = omega arith
-number-most Header = omega arith
-number-most (Malformed l) = omega arith
+-- The numbers of refusals are small, and none is 0.
+pub number-range : (r : Reason) → (1 ≤ numberOf r) × (numberOf r ≤ 12)
+number-range Lengths = omega arith
+number-range TooMany = omega arith
+number-range (Range p f) = omega arith
+number-range (Pair p) = omega arith
+number-range (Late p m b) = omega arith
+number-range (Unmet p) = omega arith
+number-range (Missed p) = omega arith
+number-range Totals = omega arith
+number-range TextTooLong = omega arith
+number-range Header = omega arith
+number-range (Malformed l) = omega arith

@@ -1,14 +1,15 @@
 -- The door's answer at each of its ways out.
 use Prim.Native.Nat.{ℕ, zero, suc, _*_, _/_, _%_, _≤_, _<_}
 use mathlib.Core.Bool.{Bool, true, false}
-use mathlib.Core.List.{List, _∷_, _++_}
-use mathlib.Core.Path.{_≡_, refl, sym, ap, _∙_}
+use mathlib.Core.List.{List, _++_}
+use mathlib.Core.Path.{_≡_, refl, sym, _∙_}
 use native.Mathlib.Omega.{arith}
 use borrow.Author.Tests.{eq-eqb, eqb-true}
 use lib.Dec.{eqb}
 use lib.ListN.{length, take, drop, replicate, length-append, length-replicate}
 use lib.Seq.{take-at}
 use Rattle.lists.proofs.Cases.{both}
+use Rattle.lists.proofs.Mapped.{take-replicate}
 use Rattle.subjobs.specs.declared.Reason.the-variants.{TooMany}
 use Rattle.subjobs.specs.Sets.{Subjobs, size}
 use Rattle.subjobs.specs.Judging.{oneLength}
@@ -71,13 +72,7 @@ module _ (bs out : List ℕ) where
 -- What the assignment left in the front of the room is what it gives for zeros.
 pub front : (s : Subjobs) (n : ℕ) (local : List ℕ) → n ≤ 128 → local ≡ results s (take n (replicate 128 0)) ++ drop n (replicate 128 0) → take n local ≡ results s (replicate n 0)
 front s n local h e =
-    let z : take n (replicate {A = ℕ} 128 0) ≡ replicate n 0 = zeros n 128 h in
-    rw (e, z) (take-at (results s (replicate n 0)) (drop n (replicate 128 0)) n (results-length s (replicate n 0) ∙ length-replicate {A = ℕ} n 0))
-  where
-    zeros : (n m : ℕ) → n ≤ m → take n (replicate {A = ℕ} m 0) ≡ replicate n 0
-    zeros zero m h = refl
-    zeros (suc n) zero h = absurd (omega arith)
-    zeros (suc n) (suc m) h = ap (λ (l : List ℕ). 0 ∷ l) (zeros n m (omega arith))
+    rw (e, take-replicate n 128 0 h) (take-at (results s (replicate n 0)) (drop n (replicate 128 0)) n (results-length s (replicate n 0) ∙ length-replicate {A = ℕ} n 0))
 
 module _ (bs ds : List ℕ) where
   pub unfit-check : fitting bs (length ds) ≡ false → checked bs ds ≡ 1

@@ -23,79 +23,69 @@ fn answer(a: Answer) {
     }
 }
 
-// P5's set: (0, 4, 20), (4, 3, 10).
-fn p5(d0: u32, d1: u32) {
-    say(b"P5");
+// Two sub-jobs of critical time 0, with proposed deadlines.
+fn two(
+    label: &[u8],
+    jobs: &[u32; 2],
+    releases: &[u32; 2],
+    executions: &[u32; 2],
+    deadlines: &[u32; 2],
+    d0: u32,
+    d1: u32,
+) {
+    say(label);
     number(d0);
     number(d1);
     let proposed = [d0, d1];
     answer(checker::check(
-        &[1, 2],
+        jobs,
         &[1, 1],
-        &[0, 4],
-        &[4, 3],
-        &[20, 10],
+        releases,
+        executions,
+        deadlines,
         &[0, 0],
         &proposed,
     ));
 }
 
-// P8's set: (0, 3, 3), (1, 1, 2).
-fn p8(d0: u32, d1: u32) {
-    say(b"P8");
-    number(d0);
-    number(d1);
-    let proposed = [d0, d1];
+// One sub-job with a proposed deadline.
+fn one(label: &[u8], release: u32, execution: u32, deadline: u32, critical: u32, d: u32) {
+    say(label);
+    number(d);
     answer(checker::check(
-        &[1, 2],
-        &[1, 1],
-        &[0, 1],
-        &[3, 1],
-        &[3, 2],
-        &[0, 0],
-        &proposed,
+        &[1],
+        &[1],
+        &[release],
+        &[execution],
+        &[deadline],
+        &[critical],
+        &[d],
     ));
+}
+
+// P5's set: (0, 4, 20), (4, 3, 10).
+fn p5(d0: u32, d1: u32) {
+    two(b"P5", &[1, 2], &[0, 4], &[4, 3], &[20, 10], d0, d1);
 }
 
 // P6's set, of jobs 5 and 2: (0, 2, 9), (0, 3, 9). At equal deadlines job 2 is served first.
 fn p6(d0: u32, d1: u32) {
-    say(b"P6");
-    number(d0);
-    number(d1);
-    let proposed = [d0, d1];
-    answer(checker::check(
-        &[5, 2],
-        &[1, 1],
-        &[0, 0],
-        &[2, 3],
-        &[9, 9],
-        &[0, 0],
-        &proposed,
-    ));
+    two(b"P6", &[5, 2], &[0, 0], &[2, 3], &[9, 9], d0, d1);
 }
 
 // P7's set: (0, 1) with deadline 3 and critical time 5. Its upper bound is -2, so nothing meets (6).
 fn p7(d: u32) {
-    say(b"P7");
-    number(d);
-    let proposed = [d];
-    answer(checker::check(&[1], &[1], &[0], &[1], &[3], &[5], &proposed));
+    one(b"P7", 0, 1, 3, 5, d);
+}
+
+// P8's set: (0, 3, 3), (1, 1, 2).
+fn p8(d0: u32, d1: u32) {
+    two(b"P8", &[1, 2], &[0, 1], &[3, 1], &[3, 2], d0, d1);
 }
 
 // P9's set, at the greatest numbers: (1000000000, 1000000, 2000000000).
 fn p9(d: u32) {
-    say(b"P9");
-    number(d);
-    let proposed = [d];
-    answer(checker::check(
-        &[1],
-        &[1],
-        &[1_000_000_000],
-        &[1_000_000],
-        &[2_000_000_000],
-        &[0],
-        &proposed,
-    ));
+    one(b"P9", 1_000_000_000, 1_000_000, 2_000_000_000, 0, d);
 }
 
 fn main() {

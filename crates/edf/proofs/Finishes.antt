@@ -1,15 +1,16 @@
 -- A finish is right: from it on, and no earlier, the sub-job has been served what it is owed. That it is the end of the
 -- last tick served is said in `Ticks`.
-use Prim.Native.Nat.{ℕ, zero, suc, _+_, _-_, _≤_, _<_}
+use Prim.Native.Nat.{ℕ, _+_, _-_, _≤_, _<_}
 use mathlib.Core.Bool.{Bool}
-use mathlib.Core.List.{List, List·Memᴰ, map}
+use mathlib.Core.List.{List, List·Memᴰ}
 use mathlib.Core.Logic.{_↔_}
-use mathlib.Core.Path.{_≡_, refl, ap}
+use mathlib.Core.Path.{_≡_, ap, _∙_}
 use native.Mathlib.Omega.{arith}
 use lib.Dec.{leb}
-use lib.ListN.{length}
-use Rattle.lists.specs.Places.{from, places, Nodup}
+use lib.ListN.{length, length-map}
+use Rattle.lists.specs.Places.{places, Nodup}
 use Rattle.lists.proofs.Cases.{test, tests}
+use Rattle.lists.proofs.Members.{from-length}
 use Rattle.edf.specs.Runs.{horizon, finish}
 use Rattle.edf.specs.Answers.{runOf}
 use Rattle.edf.proofs.Service.{served, served-is-active}
@@ -60,11 +61,6 @@ module _
       )
 
 -- A run writes as many finishes as there are sub-jobs.
-map-length : (f : ℕ → ℕ) (a n : ℕ) → length (map f (from a n)) ≡ n
-unfolding from
-map-length f a zero = refl
-map-length f a (suc n) = ap suc (map-length f (suc a) n)
-
 pub run-length : (r o : ℕ → ℕ) (lt : ℕ → ℕ → Bool) (n : ℕ) → length (runOf r o lt n .finishes) ≡ n
 unfolding runOf
-run-length r o lt n = map-length (finish r o lt (places n)) 0 n
+run-length r o lt n = length-map (places n) (finish r o lt (places n)) ∙ from-length 0 n

@@ -5,21 +5,21 @@
 --   jumped t p m c == the core c of moment t, after m ticks served to p
 --   rested m c     == the core c after m idle ticks
 use Prim.Native.Nat.{ℕ, zero, suc, _+_, _≤_, _<_}
-use mathlib.Core.Bool.{Bool, true, false, _&&_}
+use mathlib.Core.Bool.{Bool, false, and-false}
 use mathlib.Core.List.{List, [], _∷_, List·Memᴰ, List·Memᴰ·head, List·Memᴰ·tail}
 use mathlib.Core.Option.{none, some}
-use mathlib.Core.Path.{_≡_, refl, sym, ap, _∙_}
+use mathlib.Core.Path.{_≡_, refl, ap, _∙_}
 use mathlib.Core.Logic.{_⊎_, inl, inr}
 use native.Mathlib.Nat.{add-suc, add-zero}
 use native.Mathlib.Numerals.{add-one}
 use native.Mathlib.Omega.{arith}
-use borrow.Author.Tests.{lt-ltb, le-ltb, le-leb, lt-leb}
+use borrow.Author.Tests.{lt-ltb, le-ltb, lt-leb}
 use lib.Dec.{eqb, leb, ltb}
 use lib.ListN.{length, getD, set}
 use lib.Seq.{getD-set-same, getD-set-other, set-set}
 use Rattle.lists.specs.Places.{filter}
 use Rattle.lists.specs.Order.{choose}
-use Rattle.lists.proofs.Cases.{split, test, tests, eqb-no}
+use Rattle.lists.proofs.Cases.{split, test, tests, eqb-no, same-leb}
 use Rattle.edf.specs.Core.{Core, start, serve, rest, active, pick, after}
 use Rattle.edf.proofs.Service.{served, turn, turn-cases, after-served, after-idle, served-length, served-is-active, idle-none}
 
@@ -54,9 +54,8 @@ filter-none U (x ∷ xs) h =
     rw (h x (List·Memᴰ·head refl), filter-none U xs (λ i m. h i (List·Memᴰ·tail m)))
 
 -- A release that is not between two moments is before both or after both.
-same-leb : (a t u : ℕ) → t ≤ u → (a ≤ t) ⊎ (u < a) → leb a u ≡ leb a t
-same-leb a t u h w =
-    split w (λ l. le-leb a u (omega arith) ∙ sym (le-leb a t l)) (λ l. lt-leb a u l ∙ sym (lt-leb a t (omega arith)))
+outside : (a t u : ℕ) → t ≤ u → (a ≤ t) ⊎ (u < a) → leb a u ≡ leb a t
+outside a t u h w = split w (λ l. same-leb a u a t (omega arith) (omega arith)) (λ l. same-leb a u a t (omega arith) (omega arith))
 
 module _ (r o : ℕ → ℕ) (lt : ℕ → ℕ → Bool) (xs : List ℕ) where
   pub nobody-picked :
@@ -65,11 +64,7 @@ module _ (r o : ℕ → ℕ) (lt : ℕ → ℕ → Bool) (xs : List ℕ) where
   nobody-picked t v h =
       rw
       (filter-none (active r o lt xs t v) xs
-      (λ i m. split (h i m) (λ l. rw (lt-leb (r i) t l)) (λ l. and-no (leb (r i) t) (le-ltb (getD v i 0) (o i) l))))
-    where
-      and-no : (a : Bool) {b : Bool} → b ≡ false → (a && b) ≡ false
-      and-no true e = e
-      and-no false e = refl
+      (λ i m. split (h i m) (λ l. rw (lt-leb (r i) t l)) (λ l. rw (le-ltb (getD v i 0) (o i) l) (and-false (leb (r i) t)))))
 
   -- Whatever a tick served to somebody and an idle tick both keep holds at every moment.
   pub kept :
@@ -98,7 +93,7 @@ module _ (r o : ℕ → ℕ) (lt : ℕ → ℕ → Bool) (xs : List ℕ) where
   pick-stays t u p a v l h quiet owed more =
       ap (choose lt)
       (filter-same (active r o lt xs u (set v p a)) (active r o lt xs t v) xs
-      (λ i m. rw (same-leb (r i) t u h (quiet i m), left i)))
+      (λ i m. rw (outside (r i) t u h (quiet i m), left i)))
     where
       left : (i : ℕ) → ltb (getD (set v p a) i 0) (o i) ≡ ltb (getD v i 0) (o i)
       left i =

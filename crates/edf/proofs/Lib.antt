@@ -7,6 +7,7 @@ pub mod Turns
 pub mod Running
 pub mod Settled
 pub mod Ticks
+pub mod Fresh
 pub mod Groups
 pub mod Finishes
 pub mod Keeps

@@ -42,8 +42,11 @@ module _ (r o : ℕ → ℕ) (lt : ℕ → ℕ → Bool) (xs : List ℕ) where
   unfolding after
   after-tick t = refl
 
+  pub pick-cases : (t : ℕ) (v : List ℕ) → (pick r o lt xs t v ≡ none) ⊎ ((b : ℕ) × (pick r o lt xs t v ≡ some b))
+  pick-cases t v = split (choose-cases lt (filter (active r o lt xs t v) xs)) (λ w. inl (w .1)) (λ w. inr (w .0, w .2))
+
   pub turn-cases : (t : ℕ) → (turn t ≡ none) ⊎ ((b : ℕ) × (turn t ≡ some b))
-  turn-cases t = split (choose-cases lt (filter (active r o lt xs t (after r o lt xs t .served)) xs)) (λ w. inl (w .1)) (λ w. inr (w .0, w .2))
+  turn-cases t = pick-cases t (after r o lt xs t .served)
 
   -- The core after a tick that serves b, and after one that serves nobody.
   pub after-served : (t b : ℕ) → turn t ≡ some b → after r o lt xs (suc t) ≡ step t (after r o lt xs t) (some b)

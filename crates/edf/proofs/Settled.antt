@@ -9,7 +9,7 @@ use lib.Dec.{ltb}
 use lib.ListN.{length}
 use Rattle.lists.specs.Places.{places, filter, greatest}
 use Rattle.lists.proofs.Members.{filter-in, nodup-from}
-use Rattle.lists.proofs.Cases.{test, clash, tests, both}
+use Rattle.lists.proofs.Cases.{test, tests, both, neither}
 use Rattle.subjobs.specs.declared.Reason.{Reason}
 use Rattle.subjobs.specs.declared.Reason.the-variants as reason
 use Rattle.subjobs.specs.declared.Judgement.the-variants as verdict
@@ -29,9 +29,10 @@ use Rattle.edf.proofs.Ends.{finish-length, finish-owed, busy-owed, all-
 
 pub not-above : (t : Totals) → above t ≡ false → (t .busy ≤ 1_000_000_000_000_000_000) × (t .idle ≤ 1_000_000_000_000_000_000)
 not-above t e =
-    test (ltb 1_000_000_000_000_000_000 (t .busy))
-    (λ b. clash (rw b) e)
-    (λ b. let i = rw b at e in (omega tests, omega tests))
+    let h = neither {a = ltb 1_000_000_000_000_000_000 (t .busy)} {b = ltb 1_000_000_000_000_000_000 (t .idle)} e in
+    let b = h .0 in
+    let i = h .1 in
+    (omega tests, omega tests)
 
 -- A refusal leaves the totals and the list as they were.
 pub settled-refused :

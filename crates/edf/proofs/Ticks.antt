@@ -1,18 +1,18 @@
 -- What is promised of a run's ticks: busy is the sum of what is owed, busy plus idle is the end, a finish is the end of the
 -- last tick served, and the totals of runs add up.
-use Prim.Native.Nat.{ℕ, zero, suc, _+_, _-_, _≤_, _<_}
+use Prim.Native.Nat.{ℕ, suc, _+_, _-_, _≤_, _<_}
 use mathlib.Core.Bool.{Bool}
-use mathlib.Core.List.{List, List·Memᴰ, map}
+use mathlib.Core.List.{List, List·Memᴰ}
 use mathlib.Core.Option.{some}
 use mathlib.Core.Path.{_≡_, ap, _∙_}
 use mathlib.Core.Logic.{_≢_}
-use native.Mathlib.Nat.{add-suc, add-zero, zero-add}
 use native.Mathlib.Omega.{arith}
 use borrow.Author.Tests.{eq-eqb}
 use lib.ListN.{getD}
-use Rattle.lists.specs.Places.{places, from, weight, Nodup}
+use Rattle.lists.specs.Places.{places, weight, Nodup}
 use Rattle.lists.proofs.Cases.{split}
-use Rattle.lists.proofs.Members.{in-from, nodup-from}
+use Rattle.lists.proofs.Members.{in-places, nodup-from, from-length}
+use Rattle.lists.proofs.Mapped.{at-map, places-at}
 use Rattle.subjobs.specs.Sets.{Subjobs, size, job, subtask, release, execution}
 use Rattle.edf.specs.declared.Totals.{Totals}
 use Rattle.edf.specs.declared.Report.{Report}
@@ -64,12 +64,6 @@ module _ (r o : ℕ → ℕ) (lt : ℕ → ℕ → Bool) (xs : List ℕ) (small 
             );
       }))
 
-map-from : (f : ℕ → ℕ) (n a i : ℕ) → i < n → getD (map f (from a n)) i 0 ≡ f (a + i)
-unfolding from
-map-from f zero a i h = absurd (omega arith)
-map-from f (suc n) a zero h = rw (add-zero a)
-map-from f (suc n) a (suc i) h = rw (add-suc a i) (map-from f n (suc a) i (omega arith) ∙ ap f (let q : suc a + i ≡ suc (a + i) = omega arith in q))
-
 -- Whole runs of a set, whatever its deadlines and asks.
 module _ (s : Subjobs) (ds asks : List ℕ) where
   abbrev owedOf : ℕ → ℕ
@@ -80,7 +74,9 @@ module _ (s : Subjobs) (ds asks : List ℕ) where
 
   pub finish-at : (i : ℕ) → i < size s → getD (run s ds asks .finishes) i 0 ≡ finish (release s) owedOf orderOf (places (size s)) i
   unfolding runOf
-  finish-at i h = map-from (finish (release s) owedOf orderOf (places (size s))) (size s) 0 i h ∙ ap (finish (release s) owedOf orderOf (places (size s))) (zero-add i)
+  finish-at i h =
+      let f = finish (release s) owedOf orderOf (places (size s)) in
+      at-map f (places (size s)) i (omega (arith, from-length 0 (size s))) ∙ ap f (places-at (size s) i h)
 
   -- The finish of one that is owed nothing is its release.
   pub finish-nothing : (i : ℕ) → i < size s → owedOf i ≡ 0 → getD (run s ds asks .finishes) i 0 ≡ release s i
@@ -104,7 +100,7 @@ module _ (s : Subjobs) (ds asks : List ℕ) where
         → LastTick (release s) owedOf orderOf (places (size s)) i (getD (run s ds asks .finishes) i 0)
     run-finish i h l =
         rw (finish-at i h)
-        (finish-last (release s) owedOf orderOf (places (size s)) (below (size s) few) (nodup-from 0 (size s)) i (in-from 0 (size s) (omega arith) (omega arith)) l)
+        (finish-last (release s) owedOf orderOf (places (size s)) (below (size s) few) (nodup-from 0 (size s)) i (in-places (size s) i h) l)
 
 -- An accepted run adds its ticks to the totals,
 pub ran-adds :

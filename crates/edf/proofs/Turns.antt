@@ -6,7 +6,7 @@
 --   eventsLeft r o xs t v == how many are not yet released, and how many still owed something
 use Prim.Native.Nat.{ℕ, zero, suc, _+_, _-_, _*_, _≤_, _<_}
 use mathlib.Core.Bool.{Bool, cond}
-use mathlib.Core.List.{List, [], _∷_, List·Memᴰ}
+use mathlib.Core.List.{List, List·Memᴰ}
 use mathlib.Core.Option.{Option, none, some}
 use mathlib.Core.Path.{_≡_, refl, sym, ap, _∙_}
 use mathlib.Core.Logic.{_≢_, _⊎_, inl, inr}
@@ -19,13 +19,13 @@ use lib.Seq.{getD-set-same, getD-set-other}
 use Rattle.lists.specs.Places.{places, from, filter, weight, least, Nodup}
 use Rattle.lists.specs.Order.{given}
 use Rattle.lists.proofs.Cases.{split, test, tests, eqb-no}
-use Rattle.lists.proofs.Members.{filter-in, in-filter, in-filled, from-in}
+use Rattle.lists.proofs.Members.{filter-in, in-filter, in-filled, or-filled, places-in}
 use Rattle.lists.proofs.Sums.{weight-le, least-in, least-le, greatest-ge, greatest-le}
 use Rattle.lists.proofs.Choice.{chosen-in}
 use Rattle.edf.specs.Core.{Core, start, active, pick, after}
 use Rattle.edf.specs.Runs.{horizon}
 use Rattle.edf.specs.Events.{toServe, stretch}
-use Rattle.edf.proofs.Service.{served, turn, served-length, served-is-active, idle-none}
+use Rattle.edf.proofs.Service.{served, turn, pick-cases, served-length, served-is-active, idle-none}
 use Rattle.edf.proofs.Jumps.{Quiet, rested, jump, wait}
 use Rattle.edf.proofs.Counted.{Done, weight-lt, busy-idle, done-rests, jump-horizon}
 
@@ -53,14 +53,6 @@ mark-le a b c d h =
 mark-lt : (a b c d : ℕ) → a < b → d ≤ c → cond (ltb c d) 1 0 < cond (ltb a b) 1 0
 mark-lt a b c d h l = rw (lt-ltb a b h, le-ltb c d l) (omega arith)
 
-cases : (q : Option ℕ) → (q ≡ none) ⊎ ((p : ℕ) × (q ≡ some p))
-cases none = inl refl
-cases (some p) = inr (p, refl)
-
-empty-or : (xs : List ℕ) → (xs ≡ []) ⊎ (xs ≢ [])
-empty-or [] = inl refl
-empty-or (x ∷ xs) = inr (λ e. let z : _≡_ {A = ℕ} 0 1 = cc in omega arith)
-
 -- What the next release says, 0 standing for none.
 module _ (r : ℕ → ℕ) (xs : List ℕ) (t : ℕ) where
   abbrev pub next : ℕ
@@ -77,7 +69,7 @@ module _ (r : ℕ → ℕ) (xs : List ℕ) (t : ℕ) where
   unfolding least
   next-cases =
       let U : ℕ → Bool = λ i. ltb t (r i) in
-      split (empty-or (filter U xs))
+      split (or-filled (filter U xs))
       (λ e. inl (rw e, λ i m. test (U i) (λ u. absurd (in-filled (in-filter U xs m u) e)) (λ u. omega tests)))
       (λ e.
       let w = least-in r (filter U xs) e in
@@ -248,7 +240,7 @@ module _ (r o : ℕ → ℕ) (lt : ℕ → ℕ → Bool) (xs : List ℕ) where
 
 -- Over the places of a set.
 pub below : (n : ℕ) → n ≤ 128 → (i : ℕ) → List·Memᴰ i (places n) → i < 128
-below n h i m = omega (arith, from-in 0 n m .1)
+below n h i m = omega (arith, places-in n i m)
 
 weight-by : (f : ℕ → ℕ) (k n a : ℕ) → ((i : ℕ) → i < a + n → f i ≤ k) → weight f (from a n) ≤ n * k
 unfolding weight from
@@ -276,7 +268,7 @@ module _ (r o : ℕ → ℕ) (lt : ℕ → ℕ → Bool) (n : ℕ) where
   horizon-fits few early short =
       omega (
         arith,
-        greatest-le r 1_000_000_000 (places n) (λ i m. early i (omega (arith, from-in 0 n m .1))),
+        greatest-le r 1_000_000_000 (places n) (λ i m. early i (places-in n i m)),
         weight-by o 1_000_000 n 0 (λ i l. short i (omega arith)),
       )
 
@@ -284,18 +276,18 @@ module _ (r o : ℕ → ℕ) (lt : ℕ → ℕ → Bool) (n : ℕ) where
   module _ (t : ℕ) (v : List ℕ) where
     pub serves : toServe r o lt n t v < n → pick r o lt (places n) t v ≡ some (toServe r o lt n t v)
     serves h =
-        split (cases (pick r o lt (places n) t v))
+        split (pick-cases r o lt (places n) t v)
         (λ e. absurd (omega (arith, ap (λ (q : Option ℕ). given q n (λ p. p)) e)))
         (λ q. q .1 ∙ ap some (sym (ap (λ (q : Option ℕ). given q n (λ p. p)) (q .1))))
 
     pub serves-nobody : n ≤ toServe r o lt n t v → pick r o lt (places n) t v ≡ none
     serves-nobody h =
-        split (cases (pick r o lt (places n) t v))
+        split (pick-cases r o lt (places n) t v)
         (λ e. e)
         (λ q.
         absurd
         (omega (
           arith,
           ap (λ (q : Option ℕ). given q n (λ p. p)) (q .1),
-          from-in 0 n (filter-in (active r o lt (places n) t v) (places n) (chosen-in lt _ (q .1)) .0) .1,
+          places-in n (q .0) (filter-in (active r o lt (places n) t v) (places n) (chosen-in lt _ (q .1)) .0),
         )))

@@ -4,3 +4,4 @@ pub mod Members
 pub mod Sums
 pub mod Choice
 pub mod Rearranged
+pub mod Mapped

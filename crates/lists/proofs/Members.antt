@@ -1,15 +1,15 @@
 -- Who is in a group: membership in a filter, in the places of a set, and what holds of every member.
 use Prim.Native.Nat.{ℕ, zero, suc, _+_, _≤_, _<_}
 use mathlib.Core.Bool.{Bool, true, false, not}
-use mathlib.Core.List.{List, [], _∷_, List·Memᴰ, List·Memᴰ·head, List·Memᴰ·tail, List·Memᴰ·cases-cons, List·Memᴰ·not-nil}
+use mathlib.Core.List.{List, [], _∷_, _++_, List·Memᴰ, List·Memᴰ·head, List·Memᴰ·tail, List·Memᴰ·cases-cons, List·Memᴰ·not-nil}
 use mathlib.Core.Logic.{_≢_, _⊎_, inl, inr}
 use mathlib.Core.Path.{_≡_, refl, _∙_, ap}
 use native.Mathlib.Omega.{arith}
 use borrow.Author.Tests.{ne-eqb, not-true, eqb-false, eqb-true, not-false}
 use lib.Dec.{eqb}
+use lib.ListN.{length, getD, drop}
 use Rattle.lists.specs.Places.{from, filter, without, Every, InOrder, Nodup, places}
 use Rattle.lists.proofs.Cases.{split, test, clash, tests}
-use lib.ListN.{length}
 
 -- A member of x ∷ xs is x or a member of xs.
 pub in-cons : {i x : ℕ} {xs : List ℕ} {X : Type 0} → List·Memᴰ i (x ∷ xs) → (i ≡ x → X) → (List·Memᴰ i xs → X) → X
@@ -75,6 +75,27 @@ every-in P (x ∷ xs) h m = in-cons m (λ e. rw e (h .0)) (λ t. every-in P xs (
 pub in-every : (P : ℕ → Type 0) (xs : List ℕ) → ((i : ℕ) → List·Memᴰ i xs → P i) → Every P xs
 in-every P [] f = tt
 in-every P (x ∷ xs) f = (f x (List·Memᴰ·head refl), in-every P xs (λ i m. f i (List·Memᴰ·tail m)))
+
+pub every-more : (P Q : ℕ → Type 0) → ((x : ℕ) → P x → Q x) → (xs : List ℕ) → Every P xs → Every Q xs
+every-more P Q f xs e = in-every Q xs (λ i m. f i (every-in P xs e m))
+
+pub every-append : (P : ℕ → Type 0) (a b : List ℕ) → Every P a → Every P b → Every P (a ++ b)
+every-append P [] b h g = g
+every-append P (x ∷ a) b h g = (h .0, every-append P a b (h .1) g)
+
+pub every-drop : (P : ℕ → Type 0) (k : ℕ) (xs : List ℕ) → Every P xs → Every P (drop k xs)
+every-drop P zero xs e = e
+every-drop P (suc k) [] e = tt
+every-drop P (suc k) (x ∷ xs) e = every-drop P k xs (e .1)
+
+-- What stands at some place of a list is a member.
+pub in-at : (xs : List ℕ) (k : ℕ) → k < length xs → List·Memᴰ (getD xs k 0) xs
+in-at [] k h = absurd (omega arith)
+in-at (x ∷ xs) zero h = List·Memᴰ·head refl
+in-at (x ∷ xs) (suc k) h = List·Memᴰ·tail (in-at xs k (omega arith))
+
+pub every-at : (P : ℕ → Type 0) (xs : List ℕ) (k : ℕ) → k < length xs → Every P xs → P (getD xs k 0)
+every-at P xs k h e = every-in P xs e (in-at xs k h)
 
 -- The places of a set are those below its size, each once.
 pub from-in : (a n : ℕ) {i : ℕ} → List·Memᴰ i (from a n) → (a ≤ i) × (i < a + n)

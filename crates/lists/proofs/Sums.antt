@@ -120,17 +120,6 @@ greatest-le f a [] g = omega arith
 greatest-le f a (x ∷ xs) g =
     omega (arith, greatest-le f a xs (λ i m. g i (List·Memᴰ·tail m)), g x (List·Memᴰ·head refl))
 
-pub greatest-in : (f : ℕ → ℕ) (xs : List ℕ) → xs ≢ [] → (i : ℕ) × List·Memᴰ i xs × (greatest f xs ≡ f i)
-unfolding greatest
-greatest-in f [] h = absurd (h refl)
-greatest-in f (x ∷ []) h = (x, List·Memᴰ·head refl, omega arith)
-greatest-in f (x ∷ y ∷ ys) h =
-    let w = greatest-in f (y ∷ ys) (λ e. let z : _≡_ {A = ℕ} 0 1 = cc in omega arith) in
-    let e = w .2 in
-    test (ltb (greatest f (y ∷ ys)) (f x))
-    (λ t. (x, List·Memᴰ·head refl, omega tests))
-    (λ t. (w .0, List·Memᴰ·tail (w .1), omega tests))
-
 -- One term grows by one and the others stay.
 pub weight-one-more :
     (f g : ℕ → ℕ) (b : ℕ) (xs : List ℕ)

@@ -10,7 +10,8 @@ use lib.ListN.{length, getD, drop, drop-of-length-le}
 use lib.Seq.{drop-cons}
 use Rattle.lists.specs.Places.{places}
 use Rattle.lists.specs.Order.{ahead, choose}
-use Rattle.olda.proofs.Mapped.{places-at, places-length}
+use Rattle.lists.proofs.Members.{from-length}
+use Rattle.lists.proofs.Mapped.{places-at}
 
 module _ (lt : ℕ → ℕ → Bool) (xs : List ℕ) where
   pub choose-first : 0 < length xs → choose lt xs ≡ some (ahead lt (getD xs 0 0) (drop 1 xs))
@@ -36,11 +37,11 @@ module _ (lt : ℕ → ℕ → Bool) (xs : List ℕ) where
 -- The same over all places of a set.
 module _ (lt : ℕ → ℕ → Bool) (n : ℕ) where
   pub choose-place : 0 < n → choose lt (places n) ≡ some (ahead lt 0 (drop 1 (places n)))
-  choose-place h = rw (places-at n 0 h) at (choose-first lt (places n) (omega (arith, places-length n)))
+  choose-place h = rw (places-at n 0 h) at (choose-first lt (places n) (omega (arith, from-length 0 n)))
 
   module _ (p i q : ℕ) (h : i < n) (e : ahead lt p (drop i (places n)) ≡ q) where
     here : i < length (places n)
-    here = omega (arith, places-length n)
+    here = omega (arith, from-length 0 n)
 
     pub place-yes : lt i p ≡ true → ahead lt i (drop (i + 1) (places n)) ≡ q
     place-yes t = rw (places-at n i h) at (ahead-yes lt (places n) p i q here e (rw (places-at n i h) t))
@@ -49,4 +50,4 @@ module _ (lt : ℕ → ℕ → Bool) (n : ℕ) where
     place-no t = ahead-no lt (places n) p i q here e (rw (places-at n i h) t)
 
   pub place-end : (p i q : ℕ) → n ≤ i → ahead lt p (drop i (places n)) ≡ q → q ≡ p
-  place-end p i q h e = ahead-end lt (places n) p i q (omega (arith, places-length n)) e
+  place-end p i q h e = ahead-end lt (places n) p i q (omega (arith, from-length 0 n)) e

@@ -5,8 +5,7 @@ pub mod ReleaseOrder
 pub mod Rules
 pub mod Obeys
 pub mod Accepted
-pub mod Mapped
-pub mod TailParts
+pub mod Held
 pub mod Shifts
 pub mod Chosen
 pub mod Inserting

@@ -1,31 +1,22 @@
 -- Upper bounds raised by 1,000,000,000: no number is negative, and whatever is asked of bounds has the same answer. With
 -- raised bounds nothing is left to take off but the raise itself.
-use Prim.Native.Nat.{ℕ, zero, suc, _+_, _<_, _≤_}
+use Prim.Native.Nat.{ℕ, zero, suc, _+_, _<_}
 use mathlib.Core.Bool.{Bool}
 use mathlib.Core.List.{List, [], _∷_}
 use mathlib.Core.Option.{Option, none, some}
-use mathlib.Core.Path.{_≡_, refl, ap, sym, _∙_}
+use mathlib.Core.Path.{_≡_, refl, ap}
 use native.Mathlib.Omega.{arith}
-use borrow.Author.Tests.{lt-ltb, le-ltb, le-leb, lt-leb}
-use lib.Dec.{ltb, leb, eqb}
+use lib.Dec.{leb, eqb}
 use lib.ListN.{length, getD, set}
 use lib.Seq.{getD-set-same, getD-set-other}
 use Rattle.lists.specs.Places.{Every, without}
 use Rattle.lists.specs.Order.{reversed, ahead, choose, given}
-use Rattle.lists.proofs.Cases.{test, tests, eqb-no}
+use Rattle.lists.proofs.Cases.{test, tests, eqb-no, same-ltb, same-leb}
 use Rattle.lists.proofs.Members.{every-in, in-every, without-in}
 use Rattle.lists.proofs.Choice.{chosen-in}
 use Rattle.subjobs.specs.Sets.{byBound}
 use Rattle.olda.specs.Method.{placed, best, base, lower, steps}
 use Rattle.olda.proofs.AllPlaces.{every-base}
-
-same-ltb : (a b c d : ℕ) → (a < b → c < d) → (b ≤ a → d ≤ c) → ltb a b ≡ ltb c d
-same-ltb a b c d f g =
-    test (ltb a b) (λ e. e ∙ sym (lt-ltb c d (f (omega tests)))) (λ e. e ∙ sym (le-ltb c d (g (omega tests))))
-
-same-leb : (a b c d : ℕ) → (a ≤ b → c ≤ d) → (b < a → d < c) → leb a b ≡ leb c d
-same-leb a b c d f g =
-    test (leb a b) (λ e. e ∙ sym (le-leb c d (f (omega tests)))) (λ e. e ∙ sym (lt-leb c d (g (omega tests))))
 
 -- Two orders that agree on the places below n choose the same of them.
 module _ (n : ℕ) (lt lt′ : ℕ → ℕ → Bool) (same : (i j : ℕ) → i < n → j < n → lt i j ≡ lt′ i j) where

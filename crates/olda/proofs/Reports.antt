@@ -1,14 +1,14 @@
 -- The report of an accepted set, from its raised bounds.
-use Prim.Native.Nat.{ℕ, zero, suc, _+_, _<_, _≤_}
-use mathlib.Core.List.{List, _∷_}
+use Prim.Native.Nat.{ℕ, _+_, _<_, _≤_}
 use mathlib.Core.Option.{some}
-use mathlib.Core.Path.{_≡_, refl, ap, sym, _∙_}
+use mathlib.Core.Path.{_≡_, ap, sym, _∙_}
 use native.Mathlib.Omega.{arith}
 use lib.IntN.{ℤ, subℕ}
 use lib.ListN.{take, replicate}
 use Rattle.lists.specs.Places.{Every, from, places}
 use Rattle.lists.specs.Order.{choose}
-use Rattle.lists.proofs.Members.{in-every, from-in}
+use Rattle.lists.proofs.Members.{in-every, places-in}
+use Rattle.lists.proofs.Mapped.{take-replicate}
 use Rattle.subjobs.specs.Sets.{Subjobs, size, release, execution, deadline, critical, bound, byBound}
 use Rattle.olda.specs.declared.Answer.the-variants.{Placed, Nothing}
 use Rattle.olda.specs.Method.{lower, inOrder, steps, method}
@@ -18,12 +18,7 @@ use Rattle.olda.proofs.Raised.{Raised, choose-same, raised-slack, raise
 use Rattle.subjobs.proofs.Differences.{sub-same, sub-less}
 
 places-below : (n : ℕ) → Every (λ i. i < n) (places n)
-places-below n = in-every (λ i. i < n) (places n) (λ i m. let h = from-in 0 n m in omega arith)
-
-take-replicate : (n m : ℕ) → n ≤ m → take {A = ℕ} n (replicate m 0) ≡ replicate n 0
-take-replicate zero m h = refl
-take-replicate (suc n) zero h = absurd (omega arith)
-take-replicate (suc n) (suc m) h = ap (λ (l : List ℕ). 0 ∷ l) (take-replicate n m (omega arith))
+places-below n = in-every (λ i. i < n) (places n) (places-in n)
 
 module _ (s : Subjobs) (n : ℕ) (e : size s ≡ n) where
   pub report-none : (d : ℕ → ℕ) → n ≡ 0 → report s d ≡ Nothing
@@ -59,7 +54,7 @@ module _ (s : Subjobs) (n : ℕ) (e : size s ≡ n) where
       sym
       (rw e
       (raised-steps n (deadline s) (critical s) u r (release s) (execution s) n (inOrder (release s) n) (replicate n 0) (in-order-below (release s) n)
-      ∙ rw (take-replicate n 128 few)))
+      ∙ rw (take-replicate n 128 0 few)))
 
   pub bound-raised :
       (u : ℕ → ℕ) (p : ℕ) → Raised n (deadline s) (critical s) u → p < n → bound (deadline s) (critical s) p ≡ subℕ (u p) 1_000_000_000

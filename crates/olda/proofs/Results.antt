@@ -1,6 +1,7 @@
 -- What callers of the assignment need of its answer and its result list: a report is no refusal, the result list keeps
 -- its length, and the place that a refusal reports is below 128.
 use Prim.Native.Nat.{ℕ, _+_, _<_}
+use mathlib.Core.Bool.{Bool}
 use mathlib.Core.List.{List}
 use mathlib.Core.Path.{_≡_, refl, sym, ap, _∙_}
 use native.Mathlib.Omega.{arith}
@@ -9,7 +10,7 @@ use lib.Dec.{eqb}
 use lib.ListN.{length, getD}
 use Rattle.lists.specs.Places.{places}
 use Rattle.lists.proofs.Cases.{split}
-use Rattle.lists.proofs.Members.{from-in}
+use Rattle.lists.proofs.Members.{from-in, places-in}
 use Rattle.lists.proofs.Choice.{choose-cases}
 use Rattle.subjobs.specs.declared.Reason.{Reason}
 use Rattle.subjobs.specs.declared.Reason.the-variants.{Late}
@@ -34,8 +35,9 @@ never-refused s d r e =
     (λ w. let h = rw (w .2) at e in let z : _≡_ {A = ℕ} 0 1 = cc in absurd (omega arith))
 
 module _ (s : Subjobs) where
-  ones-of : (n : ℕ) → judgement s (eqb n (size s)) ≡ judged.Passed → Ones (execution s) (places (size s))
-  ones-of n e i m = let h = from-in 0 (size s) m in fit s (eqb n (size s)) e .ranges i (omega arith) .some
+  -- A set that passes refusal 3 has executions of at least 1.
+  pub passed-ones : (others : Bool) → judgement s others ≡ judged.Passed → Ones (execution s) (places (size s))
+  passed-ones others e i m = fit s others e .ranges i (places-in (size s) i m) .some
 
   pub results-length : (out : List ℕ) → length (results s out) ≡ length out
   unfolding results
@@ -44,7 +46,7 @@ module _ (s : Subjobs) where
       by-outcome : judgement s (eqb (length out) (size s)) ≡ judged.Passed → (w : Outcome) → method s ≡ w → length (written w out) ≡ length out
       by-outcome e (stuck p m) q = refl
       by-outcome e (placed ds) q =
-          method-placed s (ones-of (length out) e) ds .0 q .0
+          method-placed s (passed-ones (eqb (length out) (size s)) e) ds .0 q .0
           ∙ sym (eqb-true (length out) (size s) (fit s (eqb (length out) (size s)) e .lengths .further))
 
       by-judgement :
@@ -62,7 +64,7 @@ module _ (s : Subjobs) where
           judgement s (eqb n (size s)) ≡ judged.Passed → (w : Outcome) → method s ≡ w → outcome s w ≡ Refused r → placeOf r < 128
       by-outcome e (placed ds) q h = never-refused s (λ i. getD ds i 0) r h
       by-outcome e (stuck p m) q h =
-          let f = method-stuck s (ones-of n e) p m .0 q in
+          let f = method-stuck s (passed-ones (eqb n (size s)) e) p m .0 q in
           let b = from-in 0 (size s) (refused-in (release s) (execution s) (lower (deadline s) (critical s)) (deadline s) (critical s) p m (places (size s)) f) in
           let k : Late p m (bound (deadline s) (critical s) p) ≡ r = cc in
           let g : placeOf r ≡ p = sym (ap placeOf k) in

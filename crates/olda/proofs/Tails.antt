@@ -8,9 +8,9 @@ use mathlib.Core.Path.{_≡_, refl, sym, ap, _∙_}
 use native.Mathlib.Omega.{arith}
 use borrow.Author.Tests.{leb-true, le-leb}
 use lib.Dec.{ltb, leb}
-use Rattle.lists.specs.Places.{filter, weight, least, InOrder, Nodup}
+use Rattle.lists.specs.Places.{filter, weight, least, InOrder}
 use Rattle.lists.proofs.Cases.{split, test, tests}
-use Rattle.lists.proofs.Members.{in-cons, in-nil, cons-nil, or-filled, filter-all, filter-cases, filter-nil, filter-in}
+use Rattle.lists.proofs.Members.{cons-nil, or-filled, filter-all, filter-cases, filter-nil, filter-in}
 use Rattle.lists.proofs.Sums.{weight-nil, weight-cons, weight-filter, least-le, least-most, least-inorder}
 use Rattle.subjobs.specs.Conditions.{completion}
 use Rattle.olda.specs.Method.{best, base}
@@ -55,13 +55,6 @@ module _ (r c : ℕ → ℕ) where
       omega
       (arith, ap (completion r c) (q .1), least-le r (x ∷ filter U xs) (List·Memᴰ·head refl), weight-cons c x (filter U xs), weight-filter c U xs))
       (λ q. omega (arith, ap (completion r c) (q .1)))
-
-  -- A sub-job alone completes no later either.
-  pub best-in : (xs : List ℕ) {i : ℕ} → List·Memᴰ i xs → r i + c i ≤ best r c xs
-  best-in [] m = in-nil m
-  best-in (x ∷ xs) m =
-      let g = best-ge x xs in
-      in-cons m (λ e. omega (arith, ap r e, ap c e)) (λ t. omega (arith, best-in xs t))
 
   -- What is released at or after f has room between f and the best.
   pub late-room : (f : ℕ) (xs : List ℕ) → weight c (filter (λ i. leb f (r i)) xs) ≤ best r c xs - f
@@ -190,12 +183,3 @@ module _ (r c : ℕ → ℕ) where
       absurd
       (omega (arith, leb-true (least r (base r c xs)) (r x) (q .0), passed x xs (s .1) (b .0), ones x (List·Memᴰ·head refl))))
       (λ q. base-threshold xs (s .1) (λ i m. ones i (List·Memᴰ·tail m)) ∙ sym (q .1))))
-
-  -- The base keeps order and has nobody twice.
-  pub inorder-base : (f : ℕ → ℕ) (xs : List ℕ) → InOrder f xs → InOrder f (base r c xs)
-  inorder-base f [] s = rw base-nil tt
-  inorder-base f (x ∷ xs) s = split (base-cases x xs) (λ b. rw (b .1) s) (λ b. rw (b .1) (inorder-base f xs (s .1)))
-
-  pub nodup-base : (xs : List ℕ) → Nodup xs → Nodup (base r c xs)
-  nodup-base [] d = rw base-nil tt
-  nodup-base (x ∷ xs) d = split (base-cases x xs) (λ b. rw (b .1) d) (λ b. rw (b .1) (nodup-base xs (d .1)))

@@ -1,5 +1,4 @@
--- One turn of the method, with the sub-jobs that remain held as three lists of numbers: their places xs, their releases
--- and their executions.
+-- One turn of the method, with the sub-jobs that remain held as the list xs of their places.
 use Prim.Native.Nat.{ℕ, zero, suc, _+_, _-_, _<_, _≤_}
 use mathlib.Core.Bool.{Bool}
 use mathlib.Core.List.{List, [], _∷_}
@@ -10,27 +9,10 @@ use native.Mathlib.Omega.{arith}
 use borrow.Author.Tests.{le-leb, lt-leb}
 use lib.ListN.{length, getD, take, drop, set}
 use lib.Seq.{take-nil, getD-take, getD-drop}
-use Rattle.lists.specs.Places.{Every, Nodup, without}
+use Rattle.lists.specs.Places.{Nodup, without}
 use Rattle.lists.specs.Order.{reversed, choose}
 use Rattle.olda.specs.Method.{stuck, best, base, steps}
-use Rattle.olda.proofs.TailParts.{Execution}
-use Rattle.olda.proofs.Shifts.{rest, every-rest, nodup-rest, without-at}
-
--- What is known of them: places of the set, none twice, and the two fields in their ranges.
-pub record Remaining (n : ℕ) (xs rs cs : List ℕ) : Type 0 where
-  pub places : Every (λ p. p < n) xs
-  pub once : Nodup xs
-  pub releases : Every (λ r. r ≤ 1_000_000_000) rs
-  pub executions : Every Execution cs
-
-pub remaining-rest : {n : ℕ} {xs rs cs : List ℕ} (k : ℕ) → Remaining n xs rs cs → Remaining n (rest k xs) (rest k rs) (rest k cs)
-remaining-rest {n} {xs} {rs} {cs} k m =
-    record {
-      places = every-rest (λ p. p < n) k xs (m .places);
-      once = nodup-rest k xs (m .once);
-      releases = every-rest (λ r. r ≤ 1_000_000_000) k rs (m .releases);
-      executions = every-rest Execution k cs (m .executions);
-    }
+use Rattle.olda.proofs.Shifts.{rest, without-at}
 
 -- A part from k to n of a list is the tail from k on of its first n.
 pub part-within : (l : List ℕ) (n k : ℕ) → k ≤ n → take (n - k) (drop k l) ≡ drop k (take n l)

@@ -1,3 +1,4 @@
 pub mod Method
 pub mod Rules
 pub mod Answers
+pub mod Held

@@ -1,51 +1,53 @@
-// Tails: the sub-jobs released at or after one release, as parts of the release-ordered numbers, and the search for the
-// one of the greatest completion.
+// Tails: the sub-jobs released at or after one release, as parts of the places in release order; their completions, and
+// the search for the greatest.
 ghost use Prim.Native.Nat.{ℕ, _+_, _<_, _≤_};
 ghost use mathlib.Core.Path.{_≡_};
-ghost use mathlib.Core.List.{List, map};
-ghost use lib.ListN.{length, getD, drop};
+ghost use mathlib.Core.List.{List};
+ghost use lib.ListN.{length, getD, take, drop};
 ghost use Rattle.lists.specs.Places.{weight, Every};
 ghost use Rattle.olda.specs.Method.{best, base};
-
-// Where the base subset starts among the release-ordered sub-jobs, and its completion.
-pub(crate) struct Tail {
-    pub start: usize,
-    pub completion: u32,
-}
+ghost use Rattle.olda.specs.Held.{completions};
+use crate::choosing::index;
 
 // The completion of one tail: the release at which it starts plus the sum of its executions.
-fn completion(releases: &[u32], executions: &[u32]) -> u32
-    requires { ⌜ (0 < length (now releases)) × (getD (now releases) 0 0 + weight (λ c. c) (now executions) < 4294967296) ⌝ }
-    ensures { λ m. ⌜ m ≡ getD (now (releases .entry)) 0 0 + weight (λ c. c) (now (executions .entry)) ⌝ }
+fn completion(tail: &[u32], releases: &[u32], executions: &[u32]) -> u32
+    requires { ⌜ (0 < length (now tail)) × (length (now executions) ≡ length (now releases)) × Every (λ p. p < length (now releases)) (now tail) × (getD (now releases) (getD (now tail) 0 0) 0 + weight (λ i. getD (now executions) i 0) (now tail) < 4294967296) ⌝ }
+    ensures { λ m. ⌜ m ≡ getD (now (releases .entry)) (getD (now (tail .entry)) 0 0) 0 + weight (λ i. getD (now (executions .entry)) i 0) (now (tail .entry)) ⌝ }
 {
-    let mut m = releases[0];
+    let mut m = releases[index(tail[0])];
     let mut i = 0;
-    while i < executions.len() {
-        m += executions[i];
+    while i < tail.len() {
+        m += executions[index(tail[i])];
         i += 1;
     }
     m
 }
 
-// The tail of the greatest completion, of several the latest: the base subset. It holds for whatever sub-jobs xs have
-// these releases and executions. Each tail is added afresh; callers know the search by `best` and `base` alone.
-pub(crate) fn base_tail(releases: &[u32], executions: &[u32]) -> Tail
-    requires { ⌜ (0 < length (now releases)) × (length (now releases) ≤ 128) × (length (now executions) ≡ length (now releases)) × Every (λ r. r ≤ 1_000_000_000) (now releases) × Every (λ c. (1 ≤ c) × (c ≤ 1_000_000)) (now executions) ⌝ }
-    ensures { λ t. ⌜ (t .start < length (now (releases .entry))) × (t .completion ≤ 1_128_000_000) × ((r c : ℕ → ℕ) (xs : List ℕ) → map r xs ≡ now (releases .entry) → map c xs ≡ now (executions .entry) → (t .completion ≡ best r c xs) × (drop (t .start) xs ≡ base r c xs)) ⌝ }
+// The completion of each tail, where it starts. Each is added afresh, once; callers know them by `completions` alone.
+pub(crate) fn completions(order: &[u32], releases: &[u32], executions: &[u32], ends: &mut [u32])
+    requires { ⌜ (length (now order) ≤ 128) × (length (now order) ≤ length (now ends)) × (length (now executions) ≡ length (now releases)) × Every (λ p. p < length (now releases)) (now order) × ((i : ℕ) → i < length (now releases) → (getD (now releases) i 0 ≤ 1_000_000_000) × (getD (now executions) i 0 ≤ 1_000_000)) ⌝ }
+    ensures { λ r. ⌜ take (length (now (order .entry))) (now (ends .exit)) ≡ completions (λ i. getD (now (releases .entry)) i 0) (λ i. getD (now (executions .entry)) i 0) (now (order .entry)) ⌝ }
 {
-    let mut i = releases.len();
-    let mut start = i;
-    let mut most = 0;
+    let mut i = 0;
+    while i < order.len() {
+        ends[i] = completion(&order[i..], releases, executions);
+        i += 1;
+    }
+}
+
+// Where the base subset starts: the tail of the greatest completion, of several the latest. It holds for whatever
+// sub-jobs xs have tails of these completions.
+pub(crate) fn base_tail(ends: &[u32]) -> usize
+    requires { ⌜ (0 < length (now ends)) × Every (λ m. 1 ≤ m) (now ends) ⌝ }
+    ensures { λ k. ⌜ (k < length (now (ends .entry))) × ((r c : ℕ → ℕ) (xs : List ℕ) → completions r c xs ≡ now (ends .entry) → (getD (now (ends .entry)) k 0 ≡ best r c xs) × (drop k xs ≡ base r c xs)) ⌝ }
+{
+    let mut start = ends.len() - 1;
+    let mut i = start;
     while 0 < i {
         i -= 1;
-        let m = completion(&releases[i..], &executions[i..]);
-        if most < m {
-            most = m;
+        if ends[start] < ends[i] {
             start = i;
         }
     }
-    Tail {
-        start,
-        completion: most,
-    }
+    start
 }

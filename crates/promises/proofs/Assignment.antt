@@ -20,7 +20,6 @@ use Rattle.subjobs.specs.declared.Judgement.the-variants as judged
 use Rattle.subjobs.specs.declared.Reason.the-variants.{Late}
 use Rattle.subjobs.specs.Sets.{Subjobs, size, release, execution, deadline, critical, bound, slack, byBound}
 use Rattle.subjobs.specs.Judging.{judgement}
-use Rattle.subjobs.proofs.Fit.{fit}
 use Rattle.olda.specs.declared.Answer.the-variants.{Placed, Nothing, Refused}
 use Rattle.olda.specs.declared.Report.{Report}
 use Rattle.olda.specs.Method.{lower, Outcome, placed, stuck, method}
@@ -30,6 +29,7 @@ use Rattle.olda.proofs.ReleaseOrder.{inorder-inOrder, nodup-inOrder, inOrder-be
 use Rattle.olda.proofs.Rules.{tail-base, base-tail, turn-falls, refused-in, one-deadline, one-refusal, not-both}
 use Rattle.olda.proofs.Obeys.{lower-order, method-placed, method-stuck}
 use Rattle.olda.proofs.Accepted.{accepted-six, accepted-seven, accepted-apart}
+use Rattle.olda.proofs.Results.{passed-ones}
 use Rattle.promises.specs.Assignment.{Accepted, RefusedAt, Executions, accepted, localDeadline, AnswersAreTheRules, RulesAllowOne, ReleaseOrderIsTheSet, TailIsTheBase, TailIsOneRelease, CompletionsFall, DeadlinesDiffer, DeadlinesMeetSixAndSeven, ReportIsTheLeastSlack, NothingIsEmpty, SumsAreSigned}
 use Rattle.subjobs.proofs.Bounds.{bound-order, signed-not, bound-less, bound-met, slack-less}
 
@@ -49,13 +49,9 @@ completions-fall r c dl z xs ones b m b′ m′ t t′ = turn-falls r c (lower d
 pub sums-are-signed : SumsAreSigned
 sums-are-signed dl z d i j = (bound-less dl z i j, bound-met dl z (d i) i, slack-less dl z d i j)
 
--- A set that passes refusal 3 has executions of at least 1.
-executions : (s : Subjobs) (others : Bool) → judgement s others ≡ judged.Passed → Executions (execution s) (places (size s))
-executions s others e i m = let h = from-in 0 (size s) m in fit s others e .ranges i (omega arith) .some
-
 pub rules-allow-one : RulesAllowOne
 rules-allow-one s others e =
-    let ones = executions s others e in
+    let ones = passed-ones s others e in
     let o = lower-order (deadline s) (critical s) in (
       λ d d′ a a′ i h.
           one-deadline (release s) (execution s) (lower (deadline s) (critical s)) o (deadline s) (critical s) d d′ (places (size s)) ones
@@ -90,7 +86,7 @@ answered :
     × (results s out ≡ out))
 answered s out e (placed ds) q =
     let a = answered-placed s out e ds q in
-    let b = method-placed s (executions s (eqb (length out) (size s)) e) ds .0 q in
+    let b = method-placed s (passed-ones s (eqb (length out) (size s)) e) ds .0 q in
     let back = sym (a .1) in
     inl (
       subst (λ (es : List ℕ). Accepted s (λ i. getD es i 0)) back (b .1),
@@ -99,7 +95,7 @@ answered s out e (placed ds) q =
     )
 answered s out e (stuck p m) q =
     let a = answered-stuck s out e p m q in
-    inr (p, m, method-stuck s (executions s (eqb (length out) (size s)) e) p m .0 q, a .0, a .1)
+    inr (p, m, method-stuck s (passed-ones s (eqb (length out) (size s)) e) p m .0 q, a .0, a .1)
 
 pub answers-are-the-rules : AnswersAreTheRules
 answers-are-the-rules s out e = answered s out e (method s) refl
@@ -122,7 +118,7 @@ taken :
 taken s out a =
     let e = accepted-passed s (length out) a in
     split (answers-are-the-rules s out e)
-    (λ w. (executions s (eqb (length out) (size s)) e, w .0, w .2))
+    (λ w. (passed-ones s (eqb (length out) (size s)) e, w .0, w .2))
     (λ w. clash a (ap accepted (w .3)))
 
 -- .. and the result list is what the method placed.
@@ -130,7 +126,7 @@ pub accepted-placed : (s : Subjobs) (out : List ℕ) → accepted (answer s (len
 accepted-placed s out a =
     let e = accepted-passed s (length out) a in
     split (answers-are-the-rules s out e)
-    (λ w. method-placed s (executions s (eqb (length out) (size s)) e) (results s out) .1 (w .1, w .0))
+    (λ w. method-placed s (passed-ones s (eqb (length out) (size s)) e) (results s out) .1 (w .1, w .0))
     (λ w. clash a (ap accepted (w .3)))
 
 pub deadlines-meet-six-and-seven : DeadlinesMeetSixAndSeven
@@ -165,12 +161,6 @@ module _ (s : Subjobs) (d : ℕ → ℕ) where
       → report s d ≡ Placed (record { slack = slack (deadline s) (critical s) d p; place = p })
   unfolding report
   reported-some p e = rw e
-
-  report-accepted : accepted (report s d) ≡ true
-  report-accepted =
-      split (choose-cases slacker (places (size s)))
-      (λ w. ap accepted (reported-none (w .1)))
-      (λ w. ap accepted (reported-some (w .0) (w .2)))
 
   -- A report is made of the place that is chosen.
   reported :

@@ -11,7 +11,7 @@ use lib.ListN.{length, getD}
 use lib.Seq.{ext-getD}
 use Rattle.lists.specs.Places.{places, InOrder}
 use Rattle.lists.proofs.Cases.{test, tests}
-use Rattle.lists.proofs.Members.{nodup-from, in-without, inorder-filter, from-in, places-in, in-places}
+use Rattle.lists.proofs.Members.{nodup-from, in-without, inorder-filter, places-in, in-places}
 use Rattle.lists.proofs.Choice.{Order}
 use Rattle.subjobs.specs.declared.Judgement.the-variants.{Passed}
 use Rattle.subjobs.specs.Sets.{Subjobs, size, job, subtask, release, execution, deadline, critical}
@@ -25,6 +25,7 @@ use Rattle.olda.proofs.ReleaseOrder.{inorder-inOrder, nodup-inOrder, same-inOrd
 use Rattle.olda.proofs.Rules.{Ones, ones-without, turn-step, same-accepts}
 use Rattle.olda.proofs.Obeys.{lower-order, method-placed}
 use Rattle.olda.proofs.Accepted.{accepted-falls}
+use Rattle.olda.proofs.Results.{passed-ones}
 use Rattle.edf.specs.Runs.{sooner, owed, finish}
 use Rattle.edf.specs.Answers as edf
 use Rattle.edf.proofs.Service.{served, served-is-active, served-most}
@@ -103,12 +104,9 @@ module _
       )
 
 module _ (s : Subjobs) (o : Bool) (ds : List ℕ) (passed : judgement s o ≡ Passed) (accepted : method s ≡ placed ds) where
-  ones-of : Ones (execution s) (places (size s))
-  ones-of i m = let h = from-in 0 (size s) m in fit s o passed .ranges i (omega arith) .some
-
   -- The deadlines of an accepted set are one for each sub-job, and are peeled in the order of service that they make.
   placed-length : length ds ≡ size s
-  placed-length = method-placed s ones-of ds .0 accepted .0
+  placed-length = method-placed s (passed-ones s o passed) ds .0 accepted .0
 
   placed-peeled :
       Peel (release s) (execution s) (sooner (λ i. getD ds i 0) (job s) (subtask s)) (λ i. getD ds i 0) (inOrder (release s) (size s))
@@ -120,9 +118,9 @@ module _ (s : Subjobs) (o : Bool) (ds : List ℕ) (passed : judgement s o ≡ Pa
       (λ i. getD ds i 0) (sooner (λ i. getD ds i 0) (job s) (subtask s))
       (sooner-by (λ i. getD ds i 0) (job s) (subtask s))
       (inorder-inOrder r n)
-      (λ i m. ones-of i (same-in (inOrder r n) (places n) e m))
+      (λ i m. passed-ones s o passed i (same-in (inOrder r n) (places n) e m))
       (same-accepts r (execution s) (lower (deadline s) (critical s)) (deadline s) (critical s) (λ i. getD ds i 0) (places n) (inOrder r n)
-      (same-sym (inOrder r n) (places n) e) (method-placed s ones-of ds .0 accepted .1))
+      (same-sym (inOrder r n) (places n) e) (method-placed s (passed-ones s o passed) ds .0 accepted .1))
 
 -- For a set that the assignment accepts, with the deadlines it gives, and for asks of at least the execution each: every
 -- sub-job finishes exactly on its deadline.

@@ -6,4 +6,5 @@ pub mod Peel
 pub mod Exact
 pub mod Demand3
 pub mod Text
+pub mod Door
 pub mod Outcomes

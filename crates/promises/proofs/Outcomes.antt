@@ -21,6 +21,7 @@ use Rattle.subjobs.specs.declared.Reason.the-variants as reason
 use Rattle.edf.specs.Answers as edf
 use Rattle.checker.specs.Answers as checker
 use Rattle.table.specs.Answers as table
+use Rattle.charoktan.specs.Answers as door
 use Rattle.promises.specs.Outcomes.{RefusedKeeps, WritesAll, One, OneOutcome}
 use Rattle.olda.proofs.Results.{never-refused, results-length}
 use borrow.Author.Tests.{eqb-true}
@@ -31,6 +32,7 @@ use Rattle.edf.specs.Runs.{owed, sooner}
 use Rattle.edf.specs.declared.Answer.the-variants.{Ran}
 use Rattle.edf.specs.declared.Totals.{Totals}
 use Rattle.promises.proofs.Assignment.{accepted-placed}
+use Rattle.promises.proofs.Door.{door-keeps, door-writes-all}
 use Rattle.promises.specs.Assignment.{accepted}
 
 placing-keeps :
@@ -44,7 +46,7 @@ placing-keeps s judged.Passed (placed ds) out r e = never-refused s (λ i. getD 
 pub refused-keeps : RefusedKeeps
 unfolding olda.answer olda.results edf.finishes edf.totals
 refused-keeps =
-    (λ s out r e. placing-keeps s (judgement s (eqb (length out) (size s))) (method s) out r e, λ s ds asks fs t r e. (rw e, rw e))
+    (λ s out r e. placing-keeps s (judgement s (eqb (length out) (size s))) (method s) out r e, λ s ds asks fs t r e. (rw e, rw e), door-keeps)
 
 -- An accepted set's result list is what the method placed, whatever the list held.
 placed-alike :
@@ -90,6 +92,7 @@ writes-all = (
         (run-length (release s) (owed (execution s) (λ i. getD asks i 0)) (sooner (λ i. getD ds i 0) (job s) (subtask s)) (size s)
         ∙ sym (ran-length s ds asks (length fs) t r e)),
   ),
+  door-writes-all,
 )
 
 -- The one law, for each entry.
@@ -103,4 +106,6 @@ one-outcome = (
   λ s ds asks fs t. (one (edf.answer s ds asks (length fs) t), one (edf.totals s ds asks (length fs) t), one (edf.finishes s ds asks fs t)),
   λ s ds. one (checker.answer s ds),
   λ text out. (one (table.written text (length out)), one (table.outcome text out)),
+  λ bs out. (one (door.assigned bs (length out)), one (door.assignedBytes bs out)),
+  λ bs ds. one (door.checked bs ds),
 )

@@ -5,3 +5,4 @@ pub mod Runs
 pub mod Demand3
 pub mod Text
 pub mod Outcomes
+pub mod Door

@@ -1,11 +1,12 @@
--- What holds of every public entry: a refused call changes nothing, an accepted one writes the whole list,
--- and its statement allows one outcome only.
+-- What holds of every public entry, the engine's door included: a refused call changes nothing, an accepted one writes
+-- the whole list, and its statement allows one outcome only.
 --
 --   RefusedKeeps  == after a refusal every lent list and the totals hold what they held
 --   WritesAll     == after acceptance every place of the result list is written, whatever it held
 --   OneOutcome    == two outcomes that an entry's statement allows are equal
 use Prim.Native.Nat.{ℕ}
 use mathlib.Core.List.{List}
+use mathlib.Core.Logic.{_≢_}
 use mathlib.Core.Path.{_≡_}
 use lib.ListN.{length}
 use Rattle.subjobs.specs.declared.Reason.{Reason}
@@ -26,14 +27,16 @@ use Rattle.checker.specs.declared.Answer as checking
 use Rattle.checker.specs.Answers as checker
 use Rattle.table.specs.declared.Written.{Written}
 use Rattle.table.specs.Answers as table
+use Rattle.charoktan.specs.Answers as door
 
--- A refused call changes no list and no total.
+-- A refused call changes no list and no total; at the door, a number that is not 0 leaves every byte.
 abbrev pub RefusedKeeps : Type 0
 RefusedKeeps =
     ((s : Subjobs) (out : List ℕ) (r : Reason) → olda.answer s (length out) ≡ placed.Refused r → olda.results s out ≡ out)
     × ((s : Subjobs) (ds asks fs : List ℕ) (t : Totals) (r : Reason)
     → edf.answer s ds asks (length fs) t ≡ ran.Refused r
     → (edf.finishes s ds asks fs t ≡ fs) × (edf.totals s ds asks (length fs) t ≡ t))
+    × ((bs out : List ℕ) → door.assigned bs (length out) ≢ 0 → door.assignedBytes bs out ≡ out)
 
 -- After acceptance the whole result list is written: it has the set's size, and nothing of what it held is left.
 abbrev pub WritesAll : Type 0
@@ -46,6 +49,11 @@ WritesAll =
     → edf.answer s ds asks (length fs) t ≡ ran.Ran r
     → length old ≡ length fs
     → (edf.finishes s ds asks fs t ≡ edf.finishes s ds asks old t) × (length (edf.finishes s ds asks fs t) ≡ length fs))
+    × ((bs out old : List ℕ)
+    → door.assigned bs (length out) ≡ 0
+    → length old ≡ length out
+    → (door.assignedBytes bs out ≡ door.assignedBytes bs old)
+    × (length (door.assignedBytes bs out) ≡ length out))
 
 -- What is stated to equal one thing allows one thing only.
 abbrev pub One : (A : Type 0) → A → Type 0
@@ -62,3 +70,6 @@ OneOutcome =
     × One (List ℕ) (edf.finishes s ds asks fs t))
     × ((s : Subjobs) (ds : List ℕ) → One checking.Answer (checker.answer s ds))
     × ((text out : List ℕ) → One Written (table.written text (length out)) × One (List ℕ) (table.outcome text out))
+    × ((bs out : List ℕ)
+    → One ℕ (door.assigned bs (length out)) × One (List ℕ) (door.assignedBytes bs out))
+    × ((bs ds : List ℕ) → One ℕ (door.checked bs ds))

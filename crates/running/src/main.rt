@@ -93,7 +93,24 @@ fn one(label: &[u8], release: u32, execution: u32, ask: u32, totals: Totals) {
     say_run(label, simulated, &finishes);
 }
 
-fn none(label: &[u8], totals: Totals) {
+// The greatest release and execution, from totals of 0.
+fn greatest(label: &[u8], ask: u32) {
+    one(
+        label,
+        1_000_000_000,
+        1_000_000,
+        ask,
+        Totals { busy: 0, idle: 0 },
+    );
+}
+
+// A run of 2 busy and 5 idle ticks, on totals so far.
+fn seven_ticks(label: &[u8], busy: u64, idle: u64) {
+    one(label, 5, 2, 2, Totals { busy, idle });
+}
+
+// An empty set, on totals so far.
+fn none(label: &[u8], busy: u64, idle: u64) {
     let mut finishes = [0u32; 0];
     let simulated = edf::simulate(
         &[],
@@ -105,35 +122,30 @@ fn none(label: &[u8], totals: Totals) {
         &[],
         &[],
         &mut finishes,
-        totals,
+        Totals { busy, idle },
     );
     say_run(label, simulated, &finishes);
 }
 
-fn main() {
-    example(b"P10", &[2, 9, 8, 7], &[2, 1, 0, 5]);
+fn asks() {
+    let local = [2, 9, 8, 7];
+    example(b"P10", &local, &[2, 1, 0, 5]);
     example(
         b"the example, every ask its execution",
-        &[2, 9, 8, 7],
+        &local,
         &[2, 2, 2, 1],
     );
-    example(b"an ask too few", &[2, 9, 8, 7], &[2, 1, 0]);
-    none(b"nobody", Totals { busy: 0, idle: 0 });
-    one(
-        b"1,001,000,000 ticks",
-        1_000_000_000,
-        1_000_000,
-        4_294_967_295,
-        Totals { busy: 0, idle: 0 },
-    );
-    one(
-        b"an ask of 0",
-        1_000_000_000,
-        1_000_000,
-        0,
-        Totals { busy: 0, idle: 0 },
-    );
+    example(b"an ask too few", &local, &[2, 1, 0]);
+}
+
+fn ends_of_the_ranges() {
+    none(b"nobody", 0, 0);
+    greatest(b"1,001,000,000 ticks", 4_294_967_295);
+    greatest(b"an ask of 0", 0);
     one(b"an execution of 0", 7, 0, 1, Totals { busy: 3, idle: 4 });
+}
+
+fn who_is_served_first() {
     two(b"smaller deadline", &[1, 2], &[1, 1], &[5, 4]);
     two(b"equal deadlines, smaller job", &[2, 1], &[1, 9], &[4, 4]);
     two(
@@ -142,68 +154,26 @@ fn main() {
         &[2, 1],
         &[4, 4],
     );
-    one(
-        b"busy total at the most",
-        5,
-        2,
-        2,
-        Totals {
-            busy: 999_999_999_999_999_998,
-            idle: 0,
-        },
-    );
-    one(
-        b"busy total above it",
-        5,
-        2,
-        2,
-        Totals {
-            busy: 999_999_999_999_999_999,
-            idle: 0,
-        },
-    );
-    one(
-        b"idle total at the most",
-        5,
-        2,
-        2,
-        Totals {
-            busy: 0,
-            idle: 999_999_999_999_999_995,
-        },
-    );
-    one(
-        b"idle total above it",
-        5,
-        2,
-        2,
-        Totals {
-            busy: 0,
-            idle: 999_999_999_999_999_996,
-        },
-    );
-    one(
+}
+
+// Both sides of number 8, which comes above 1,000,000,000,000,000,000.
+fn totals_at_the_most() {
+    seven_ticks(b"busy total at the most", 999_999_999_999_999_998, 0);
+    seven_ticks(b"busy total above it", 999_999_999_999_999_999, 0);
+    seven_ticks(b"idle total at the most", 0, 999_999_999_999_999_995);
+    seven_ticks(b"idle total above it", 0, 999_999_999_999_999_996);
+    seven_ticks(
         b"the largest record",
-        5,
-        2,
-        2,
-        Totals {
-            busy: 18_446_744_073_709_551_615,
-            idle: 18_446_744_073_709_551_615,
-        },
+        18_446_744_073_709_551_615,
+        18_446_744_073_709_551_615,
     );
-    none(
-        b"nobody, at the most",
-        Totals {
-            busy: 1_000_000_000_000_000_000,
-            idle: 0,
-        },
-    );
-    none(
-        b"nobody, already above it",
-        Totals {
-            busy: 0,
-            idle: 1_000_000_000_000_000_001,
-        },
-    );
+    none(b"nobody, at the most", 1_000_000_000_000_000_000, 0);
+    none(b"nobody, already above it", 0, 1_000_000_000_000_000_001);
+}
+
+fn main() {
+    asks();
+    ends_of_the_ranges();
+    who_is_served_first();
+    totals_at_the_most();
 }

@@ -1,23 +1,17 @@
 -- The bridge between sums of naturals and signed numbers: a difference of naturals is compared by cross sums.
-use Prim.Native.Nat.{ℕ, suc, _+_, _-_, _<_}
+use Prim.Native.Nat.{ℕ, suc, _+_, _-_}
 use mathlib.Core.Bool.{not}
 use mathlib.Core.Path.{_≡_, refl, sym, ap, _∙_}
 use native.Mathlib.Omega.{arith}
-use borrow.Author.Tests.{ltb-true, leb-true, leb-false, lt-ltb, le-ltb}
+use borrow.Author.Tests.{leb-true, leb-false, lt-ltb, le-ltb}
 use lib.Dec.{ltb, leb}
 use lib.IntN.{ℤ, pos, negsuc, subℕ}
 use lib.Signed.{leZ, ltZ}
-use Rattle.lists.proofs.Cases.{test, tests, tested}
+use Rattle.lists.proofs.Cases.{test, tests, tested, same-ltb}
 use Rattle.subjobs.proofs.Differences.{sub-pos, sub-less}
 use Rattle.subjobs.specs.Sets.{bound, slack, byBound}
 use mathlib.Core.Logic.{inl, inr}
 use Rattle.lists.proofs.Choice.{Order}
-
-same-ltb : (x y u v : ℕ) → (x < y → u < v) → (u < v → x < y) → ltb x y ≡ ltb u v
-same-ltb x y u v f g =
-    test (ltb x y)
-    (λ e. e ∙ sym (lt-ltb u v (f (ltb-true x y e))))
-    (λ e. test (ltb u v) (λ q. lt-ltb x y (g (ltb-true u v q)) ∙ sym q) (λ q. e ∙ sym q))
 
 signed-less : (a b c d : ℕ) → ltZ (subℕ a b) (subℕ c d) ≡ ltb (a + d) (c + b)
 signed-less a b c d =

@@ -7,7 +7,7 @@ use borrow.Author.Tests.{eq-eqb}
 use lib.Dec.{ltb, eqb}
 use lib.ListN.{length}
 use Rattle.lists.specs.Search.{someFrom}
-use Rattle.lists.proofs.Cases.{test, clash, tests}
+use Rattle.lists.proofs.Cases.{test, clash, tests, neither}
 use Rattle.subjobs.specs.declared.Judgement.{Judgement}
 use Rattle.subjobs.specs.declared.Judgement.the-variants.{Passed, Refused}
 use Rattle.subjobs.specs.declared.Reason.{Reason}
@@ -30,7 +30,7 @@ pub record Fit (s : Subjobs) (others : Bool) : Type 0 where
   pub ranges : (i : ℕ) → i < size s → InRange (release s i) (execution s i) (deadline s i) (critical s i)
   pub pairs : (i j : ℕ) → i < j → j < size s → job s i ≡ job s j → subtask s i ≡ subtask s j → ⊥
 
-refused-passed : {X : Type 0} (r : Reason) → Refused r ≡ Passed → X
+pub refused-passed : {X : Type 0} (r : Reason) → Refused r ≡ Passed → X
 refused-passed r e = let z : _≡_ {A = ℕ} 0 1 = cc in absurd (omega arith)
 
 or-else : (a b : Judgement) → orElse a b ≡ Passed → (a ≡ Passed) × (b ≡ Passed)
@@ -57,28 +57,23 @@ in-range p r c dl z e =
     let b = unless (ltb c 1 || ltb 1_000_000 c) _ _ (a .1) in
     let d = unless (ltb 2_000_000_000 dl) _ _ (b .1) in
     let f = unless (ltb 1_000_000_000 z) _ _ (d .1) in
-    let g = neither (ltb c 1) (ltb 1_000_000 c) (b .0) in
+    let g = neither {a = ltb c 1} {b = ltb 1_000_000 c} (b .0) in
     let l = g .0 in
     let h = g .1 in
     let a0 = a .0 in
     let d0 = d .0 in
     let f0 = f .0 in
     record { release = omega tests; some = omega tests; execution = omega tests; deadline = omega tests; critical = omega tests }
-  where
-    neither : (a b : Bool) → (a || b) ≡ false → (a ≡ false) × (b ≡ false)
-    neither true b e = clash refl e
-    neither false b e = (refl, e)
 
 -- A search that finds nothing passes a test at no place.
 none-found : (P : ℕ → Bool) (n i : ℕ) → someFrom P n i ≡ false → (k : ℕ) → i ≤ k → k < i + n → P k ≡ false
 unfolding someFrom
 none-found P zero i e k lo hi = absurd (omega arith)
 none-found P (suc n) i e k lo hi =
-    test (P i) (λ t. clash (rw t) e)
-    (λ t.
+    let h = neither {a = P i} {b = someFrom P n (suc i)} e in
     test (eqb k i)
-    (λ q. let p : k ≡ i = omega tests in rw p t)
-    (λ q. none-found P n (suc i) (rw t at e) k (omega tests) (omega tests)))
+    (λ q. let p : k ≡ i = omega tests in rw p (h .0))
+    (λ q. none-found P n (suc i) (h .1) k (omega tests) (omega tests))
 
 module _ (s : Subjobs) (others : Bool) where
   fits : oneLength s others ≡ true → size s ≤ 128 → judgement s others ≡ Passed → Fit s others

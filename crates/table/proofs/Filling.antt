@@ -5,7 +5,7 @@ use mathlib.Core.Path.{_≡_, refl, sym, ap, _∙_}
 use native.Mathlib.Numerals.{add-one}
 use native.Mathlib.Omega.{arith}
 use borrow.Author.Tests.{le-leb, lt-leb}
-use lib.ListN.{length, set, take, replicate, length-append, length-set}
+use lib.ListN.{length, set, take, length-append, length-set}
 use lib.Seq.{take-suc-set}
 use Rattle.subjobs.specs.declared.Reason.{Reason}
 use Rattle.subjobs.specs.declared.Reason.the-variants as reason
@@ -107,11 +107,6 @@ module _ (text : List ℕ) (at : ℕ) (c : Columns) (count i : ℕ) (r : Reached
                 });
             rest = sym (sym (r .rest) ∙ rw (left-more 128 count m, lt-leb _ _ h, e));
           }
-
-pub take-replicate : (n m a : ℕ) → n ≤ m → take n (replicate m a) ≡ replicate n a
-take-replicate zero m a h = refl
-take-replicate (suc n) zero a h = absurd (omega arith)
-take-replicate (suc n) (suc m) a h = ap (λ (l : List ℕ). a ∷ l) (take-replicate n m a (omega arith))
 
 -- What was told, by what the body says.
 pub told-refused : (p : Parsed) (t : Table) (r : Reason) → Told p t → t .body ≡ body.Refused r → p ≡ refused r

@@ -8,6 +8,7 @@ use borrow.Author.Tests.{ne-eqb}
 use lib.IntN.{pos}
 use lib.ListN.{getD, replicate, length-replicate}
 use Rattle.lists.specs.Places.{Every, from, places}
+use Rattle.lists.proofs.Members.{every-more, every-append}
 use Rattle.subjobs.specs.declared.Judgement.the-variants.{Passed}
 use Rattle.subjobs.specs.Sets.{Subjobs, size, job, subtask, deadline, critical}
 use Rattle.olda.specs.Answers as olda
@@ -19,15 +20,11 @@ use Rattle.table.specs.Lines.{cut, linesOf}
 use Rattle.table.specs.Answers.{lineAt, joined, accepted, verdictOf, tabled}
 use Rattle.table.proofs.Printing.{line-is}
 use Rattle.table.proofs.Outcomes.{in-time, accepted-sound}
-use Rattle.table.proofs.RoundTrip.{every-append, figures-digits}
+use Rattle.table.proofs.RoundTrip.{figures-digits}
 
 -- Bytes within a line.
 abbrev Inside : ℕ → Type 0
 Inside b = b ≢ 10
-
-every-same : (P Q : ℕ → Type 0) (xs : List ℕ) → ((b : ℕ) → P b → Q b) → Every P xs → Every Q xs
-every-same P Q [] f h = tt
-every-same P Q (x ∷ xs) f h = (f x (h .0), every-same P Q xs f (h .1))
 
 cut-line : (w a bs : List ℕ) → Every Inside a → cut w (a ++ (10 ∷ bs)) ≡ (w ++ (a ++ (10 ∷ []))) ∷ cut [] bs
 unfolding cut
@@ -45,7 +42,7 @@ line-first l bs (a, h, e) =
     rw e (ap (cut []) (append-assoc a (10 ∷ []) bs) ∙ cut-line [] a bs h)
 
 decimal-inside : (x : ℕ) → Every Inside (decimal x)
-decimal-inside x = every-same Digit Inside (decimal x) (λ b d e. omega arith) (figures-digits 10 x)
+decimal-inside x = every-more Digit Inside (λ b d e. omega arith) (decimal x) (figures-digits 10 x)
 
 parted-inside : (x : ℕ) → Every Inside (parted x)
 parted-inside x = every-append Inside (decimal x) (44 ∷ []) (decimal-inside x) (λ e. omega arith, tt)

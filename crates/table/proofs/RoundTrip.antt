@@ -16,16 +16,13 @@ use lib.Dec.{ltb}
 use lib.ListN.{length, replicate, length-append, length-replicate}
 use Rattle.lists.specs.Places.{Every}
 use Rattle.lists.proofs.Cases.{test, tests}
+use Rattle.lists.proofs.Members.{every-append}
 use Rattle.table.specs.declared.reading.Row.{Row}
 use Rattle.table.specs.Reading.{header, records, read}
 use Rattle.table.specs.Writing.{figures, decimal, crlf}
 use Rattle.table.specs.Format as format
 use Rattle.table.specs.Format.{Digit, valueFrom, Number, Field, bare, quoted, Lines, ends, closes}
 use Rattle.table.proofs.Accepting.{table-read}
-
-pub every-append : (P : ℕ → Type 0) (a b : List ℕ) → Every P a → Every P b → Every P (a ++ b)
-every-append P [] b h g = g
-every-append P (x ∷ a) b h g = (h .0, every-append P a b (h .1) g)
 
 value-append : (v : ℕ) (a b : List ℕ) → valueFrom v (a ++ b) ≡ valueFrom (valueFrom v a) b
 unfolding valueFrom

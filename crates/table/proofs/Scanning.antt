@@ -9,15 +9,17 @@ use borrow.Author.Tests.{le-leb, lt-leb}
 use lib.Dec.{ltb, eqb}
 use lib.ListN.{length, getD, drop, drop-of-length-le}
 use lib.Seq.{drop-cons}
-use Rattle.lists.proofs.Cases.{test, tests, clash}
+use Rattle.lists.proofs.Cases.{test, tests, neither}
 use Rattle.table.specs.declared.reading.Cell.the-variants as cell
 use Rattle.table.specs.Reading.{digits, number, starts}
 
 -- A byte that is a digit.
 pub digit : (b : ℕ) → (ltb b 48 || ltb 57 b) ≡ false → (48 ≤ b) × (b ≤ 57)
 digit b e =
-    test (ltb b 48) (λ t. clash (rw t) e)
-    (λ t. test (ltb 57 b) (λ u. clash (rw (t, u)) e) (λ u. (omega tests, omega tests)))
+    let h = neither {a = ltb b 48} {b = ltb 57 b} e in
+    let low = h .0 in
+    let high = h .1 in
+    (omega tests, omega tests)
 
 -- More than 10 digits, and a value too great, stay so with every further digit.
 pub too-long : (v n i : ℕ) (bs : List ℕ) → 10 < n → number (digits v n i bs) ≡ cell.Malformed

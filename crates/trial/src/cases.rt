@@ -53,8 +53,7 @@ fn of_a_set(kind: u64, text: &[u8], at: &mut usize) {
     );
 }
 
-// A case whose set is read. The further list of an assignment is the results before, that of a check
-// the proposed deadlines.
+// A case whose set is read: a run has three further lists, the others one.
 fn by_kind(
     kind: u64,
     text: &[u8],
@@ -77,8 +76,33 @@ fn by_kind(
             deadlines,
             criticals,
         );
-        return;
+    } else {
+        of_one_list(
+            kind,
+            text,
+            at,
+            jobs,
+            subtasks,
+            releases,
+            executions,
+            deadlines,
+            criticals,
+        );
     }
+}
+
+// The further list of an assignment is the results before, that of a check the proposed deadlines.
+fn of_one_list(
+    kind: u64,
+    text: &[u8],
+    at: &mut usize,
+    jobs: &[u32],
+    subtasks: &[u32],
+    releases: &[u32],
+    executions: &[u32],
+    deadlines: &[u32],
+    criticals: &[u32],
+) {
     let mut list = [0u32; 160];
     let n = reading::list(text, at, &mut list);
     if kind == 1 {

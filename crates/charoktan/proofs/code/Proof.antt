@@ -1,7 +1,7 @@
 -- `code` meets its contract: numbers and places are small, so the sum fits.
 use borrow.Author.Needs.{needs}
 use native.Mathlib.Omega.{arith}
-use Rattle.charoktan.proofs.Coding.{number-most}
+use Rattle.charoktan.proofs.Coding.{number-range}
 use Rattle.charoktan.proofs.code.Statement.{statement}
 use Rattle.charoktan.proofs.code.Tie as tie
 
@@ -18,7 +18,7 @@ mul-result : tie.Need-mul-result
 mul-result c = search needs
 
 add-result : tie.Need-add-result
-add-result c = record { fits = omega (arith, number-most (c .before .before .args .reason)) }
+add-result c = record { fits = omega (arith, number-range (c .before .before .args .reason) .1) }
 
 returns : tie.Need-returns
 returns c = search needs

@@ -6,7 +6,6 @@ use lib.Dec.{eqb}
 use lib.ListN.{length}
 use Rattle.subjobs.specs.declared.Judgement.the-variants.{Passed}
 use Rattle.subjobs.specs.Sets.{Subjobs, subjobs, size}
-use Rattle.subjobs.specs.Judging.{judgement}
 use Rattle.subjobs.proofs.Fit.{Fit, fit}
 use Rattle.olda.specs.Answers.{answer, results}
 use borrow.Author.Needs.{needs}

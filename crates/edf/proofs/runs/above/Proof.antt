@@ -1,18 +1,16 @@
 -- `runs::above` meets its contract: the room that is left below the most is compared, so that no sum wraps.
 use borrow.Author.Needs.{needs}
 use Prim.Native.Nat.{ℕ, _+_, _-_, _≤_}
-use mathlib.Core.Path.{_≡_, sym, _∙_}
-use borrow.Author.Tests.{lt-ltb, le-ltb}
+use mathlib.Core.Path.{_≡_, sym}
+use native.Mathlib.Omega.{arith}
+use borrow.Author.Tests.{lt-ltb}
 use lib.Dec.{ltb}
-use Rattle.lists.proofs.Cases.{test, tests}
+use Rattle.lists.proofs.Cases.{same-ltb}
 use Rattle.edf.proofs.runs.above.Statement.{statement}
 use Rattle.edf.proofs.runs.above.Tie as tie
 
 room : (m t k : ℕ) → t ≤ m → ltb (m - t) k ≡ ltb m (t + k)
-room m t k h =
-    test (ltb (m - t) k)
-    (λ e. e ∙ sym (lt-ltb m (t + k) (omega tests)))
-    (λ e. e ∙ sym (le-ltb m (t + k) (omega tests)))
+room m t k h = same-ltb (m - t) k m (t + k) (omega arith) (omega arith)
 
 returns : tie.Need-returns
 returns c = sym (lt-ltb _ (c .before .args .total + c .before .args .more) (search needs))

@@ -5,7 +5,7 @@ use mathlib.Core.Path.{_≡_, refl, sym, _∙_}
 use native.Mathlib.Omega.{arith}
 use lib.ListN.{length, take, length-set}
 use lib.Seq.{take-all}
-use Rattle.olda.proofs.Mapped.{take-more}
+use Rattle.lists.proofs.Mapped.{take-more}
 use Rattle.olda.proofs.fitting.copy.Statement.{statement}
 use Rattle.olda.proofs.fitting.copy.Tie as tie
 

@@ -5,7 +5,7 @@ use mathlib.Core.Path.{sym, ap, _∙_}
 use native.Mathlib.Omega.{arith}
 use lib.ListN.{length}
 use lib.Seq.{length-take-le}
-use Rattle.table.proofs.Filling.{take-replicate}
+use Rattle.lists.proofs.Mapped.{take-replicate}
 use Rattle.table.proofs.tabling.put_first.Statement.{statement}
 use Rattle.table.proofs.tabling.put_first.Tie as tie
 

@@ -42,7 +42,7 @@ put-refusal-requires : tie.Need-put-refusal-requires
 put-refusal-requires c κs =
     let v = c .before .before .before .before in
     let o = v .before .before .before .before .before .before .before .before .before .before .before .before .before .before in
-    (omega (arith, verdict-place (Set o) _ (verdict v ∙ c .before .before .verdict .given .1), o .pre .0), search needs)
+    (omega (arith, verdict-place (Set o) (size (Set o)) _ (verdict v ∙ c .before .before .verdict .given .1)), search needs)
 
 same-length : tie.Need-same-length
 same-length c = search needs

@@ -1,0 +1,33 @@
+-- Lists read place by place: numbers held in the order of a list of places, `map f xs`; the places of a set; one number
+-- more of a copy; the first of many equal numbers.
+use Prim.Native.Nat.{ℕ, zero, suc, _+_, _<_, _≤_}
+use mathlib.Core.List.{List, [], _∷_, map}
+use mathlib.Core.Path.{_≡_, refl, ap, _∙_}
+use native.Mathlib.Omega.{arith}
+use native.Mathlib.Numerals.{add-one}
+use lib.ListN.{length, getD, take, set, replicate}
+use lib.Seq.{take-suc, take-suc-set}
+use Rattle.lists.specs.Places.{from, places}
+
+pub at-map : (f : ℕ → ℕ) (xs : List ℕ) (i : ℕ) → i < length xs → getD (map f xs) i 0 ≡ f (getD xs i 0)
+at-map f [] i h = absurd (omega arith)
+at-map f (x ∷ xs) zero h = refl
+at-map f (x ∷ xs) (suc i) h = at-map f xs i (omega arith)
+
+from-at : (k n i : ℕ) → i < n → getD (from k n) i 0 ≡ k + i
+unfolding from
+from-at k zero i h = absurd (omega arith)
+from-at k (suc n) zero h = omega arith
+from-at k (suc n) (suc i) h = from-at (suc k) n i (omega arith) ∙ omega arith
+
+pub places-at : (n i : ℕ) → i < n → getD (places n) i 0 ≡ i
+places-at n i h = from-at 0 n i h ∙ omega arith
+
+-- One number more is the same in both lists.
+pub take-more : (a b : List ℕ) (i : ℕ) → i < length a → i < length b → take i a ≡ take i b → take (i + 1) (set a i (getD b i 0)) ≡ take (i + 1) b
+take-more a b i h l e = rw (add-one, take-suc-set a i (getD b i 0) h, take-suc b i 0 l, e)
+
+pub take-replicate : (n m a : ℕ) → n ≤ m → take n (replicate m a) ≡ replicate n a
+take-replicate zero m a h = refl
+take-replicate (suc n) zero a h = absurd (omega arith)
+take-replicate (suc n) (suc m) a h = ap (λ (l : List ℕ). a ∷ l) (take-replicate n m a (omega arith))

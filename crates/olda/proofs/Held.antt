@@ -1,0 +1,191 @@
+-- The completions that the code holds: what they say of the tails, of `best` and of `base`, and what becomes of them when
+-- a sub-job leaves.
+use Prim.Native.Nat.{ℕ, zero, suc, _+_, _-_, _*_, _<_, _≤_, max}
+use mathlib.Core.Bool.{cond}
+use mathlib.Core.List.{List, [], _∷_}
+use mathlib.Core.Path.{_≡_, refl, sym, ap, _∙_}
+use native.Mathlib.Nat.{add-zero}
+use native.Mathlib.Numerals.{add-one}
+use native.Mathlib.Omega.{arith}
+use borrow.Author.Tests.{lt-ltb, le-ltb}
+use lib.Dec.{ltb}
+use lib.ListN.{length, getD, take, drop, set, length-drop}
+use lib.Seq.{drop-cons, drop-length, getD-drop, getD-take, take-all}
+use Rattle.lists.specs.Places.{weight, Every}
+use Rattle.lists.proofs.Members.{every-more}
+use Rattle.olda.specs.Method.{best, base}
+use Rattle.olda.specs.Held.{completions, lessened}
+use Rattle.olda.proofs.Shifts.{rest}
+
+pub weight-at : (f : ℕ → ℕ) (l : List ℕ) (i : ℕ) → i < length l → weight f (drop i l) ≡ f (getD l i 0) + weight f (drop (i + 1) l)
+unfolding weight
+weight-at f l i h = rw (drop-cons l i 0 h, add-one)
+
+pub weight-end : (f : ℕ → ℕ) (l : List ℕ) (i : ℕ) → length l ≤ i → weight f (drop i l) ≡ 0
+unfolding weight
+weight-end f [] zero h = refl
+weight-end f [] (suc i) h = refl
+weight-end f (x ∷ l) zero h = absurd (omega arith)
+weight-end f (x ∷ l) (suc i) h = weight-end f l i (omega arith)
+
+pub weight-most : (f : ℕ → ℕ) (xs : List ℕ) → Every (λ x. f x ≤ 1_000_000) xs → weight f xs ≤ 1_000_000 * length xs
+unfolding weight
+weight-most f [] e = omega arith
+weight-most f (x ∷ xs) e = let ih = weight-most f xs (e .1) in omega (arith, e .0)
+
+weight-one : (f : ℕ → ℕ) (xs : List ℕ) (k : ℕ) → k < length xs → f (getD xs k 0) ≤ weight f xs
+unfolding weight
+weight-one f [] k h = absurd (omega arith)
+weight-one f (x ∷ xs) zero h = omega arith
+weight-one f (x ∷ xs) (suc k) h = let ih = weight-one f xs k (omega arith) in omega arith
+
+weight-rest : (f : ℕ → ℕ) (xs : List ℕ) (k : ℕ) → k < length xs → weight f (rest k xs) + f (getD xs k 0) ≡ weight f xs
+unfolding weight
+weight-rest f [] k h = absurd (omega arith)
+weight-rest f (x ∷ xs) zero h = omega arith
+weight-rest f (x ∷ xs) (suc k) h = let ih = weight-rest f xs k (omega arith) in omega arith
+
+-- A part from i to the end of a list is the tail from i on.
+pub part-tail : (l : List ℕ) (i : ℕ) → take (length l - i) (drop i l) ≡ drop i l
+part-tail l i = take-all (length l - i) (drop i l) (simp length-drop (omega arith))
+
+-- The first k lessened, one after the other.
+pub lessened-at : (k v : ℕ) (ns : List ℕ) → getD (lessened k v ns) k 0 ≡ getD ns k 0
+unfolding lessened
+lessened-at zero v ns = refl
+lessened-at (suc k) v [] = refl
+lessened-at (suc k) v (n ∷ ns) = lessened-at k v ns
+
+pub lessened-more : (k v : ℕ) (ns : List ℕ) → k < length ns → set (lessened k v ns) k (getD ns k 0 - v) ≡ lessened (suc k) v ns
+unfolding lessened
+lessened-more k v [] h = absurd (omega arith)
+lessened-more zero v (n ∷ ns) h = refl
+lessened-more (suc k) v (n ∷ ns) h = ap (λ (l : List ℕ). (n - v) ∷ l) (lessened-more k v ns (omega arith))
+
+pub take-lessened : (n k v : ℕ) (ns : List ℕ) → k ≤ n → take n (lessened k v ns) ≡ lessened k v (take n ns)
+unfolding lessened
+take-lessened n zero v ns h = refl
+take-lessened zero (suc k) v ns h = absurd (omega arith)
+take-lessened (suc n) (suc k) v [] h = refl
+take-lessened (suc n) (suc k) v (m ∷ ns) h = ap (λ (l : List ℕ). (m - v) ∷ l) (take-lessened n k v ns (omega arith))
+
+module _ (r c : ℕ → ℕ) where
+  pub completions-length : (xs : List ℕ) → length (completions r c xs) ≡ length xs
+  unfolding completions
+  completions-length [] = refl
+  completions-length (x ∷ xs) = ap suc (completions-length xs)
+
+  pub completions-at : (xs : List ℕ) (i : ℕ) → i < length xs → getD (completions r c xs) i 0 ≡ r (getD xs i 0) + weight c (drop i xs)
+  unfolding completions
+  completions-at [] i h = absurd (omega arith)
+  completions-at (x ∷ xs) zero h = refl
+  completions-at (x ∷ xs) (suc i) h = completions-at xs i (omega arith)
+
+  -- In its range a sub-job makes its tail's completion positive.
+  pub completions-some : (xs : List ℕ) → Every (λ x. 1 ≤ c x) xs → Every (λ m. 1 ≤ m) (completions r c xs)
+  unfolding completions weight
+  completions-some [] e = tt
+  completions-some (x ∷ xs) e = (omega (arith, e .0), completions-some xs (e .1))
+
+  -- .. and no greater than 128 sub-jobs in their ranges can make it.
+  pub completions-most :
+      (xs : List ℕ)
+      → Every (λ x. (r x ≤ 1_000_000_000) × (c x ≤ 1_000_000)) xs
+      → length xs ≤ 128
+      → (i : ℕ)
+      → i < length xs
+      → getD (completions r c xs) i 0 ≤ 1_128_000_000
+  unfolding completions
+  completions-most [] e few i h = absurd (omega arith)
+  completions-most (x ∷ xs) e few zero h =
+      omega
+      (arith, e .0 .0, weight-most c (x ∷ xs) (every-more (λ y. (r y ≤ 1_000_000_000) × (c y ≤ 1_000_000)) (λ y. c y ≤ 1_000_000) (λ y q. q .1) (x ∷ xs) e))
+  completions-most (x ∷ xs) e few (suc i) h = completions-most xs (e .1) (omega arith) i (omega arith)
+
+  -- The part of xs from i on is a tail, and its completion stands at i.
+  pub completions-part :
+      (xs : List ℕ) (i : ℕ)
+      → i < length xs
+      → r (getD (take (length xs - i) (drop i xs)) 0 0) + weight c (take (length xs - i) (drop i xs)) ≡ getD (completions r c xs) i 0
+  completions-part xs i h =
+      rw (part-tail xs i, getD-drop i xs 0 0, add-zero i) (sym (completions-at xs i h))
+
+  -- A tail's completion holds the execution of each of its sub-jobs.
+  pub completions-hold : (xs : List ℕ) (k i : ℕ) → k < length xs → i < k → c (getD xs k 0) ≤ getD (completions r c xs) i 0
+  unfolding completions
+  completions-hold [] k i h l = absurd (omega arith)
+  completions-hold (x ∷ xs) zero i h l = absurd (omega arith)
+  completions-hold (x ∷ xs) (suc k) zero h l = omega (arith, weight-one c (x ∷ xs) (suc k) h)
+  completions-hold (x ∷ xs) (suc k) (suc i) h l = completions-hold xs k i (omega arith) (omega arith)
+
+  -- When a sub-job leaves, the tails that it was in are shorter by its execution and the one that it starts is gone.
+  pub completions-rest : (xs : List ℕ) (k : ℕ) → k < length xs → rest k (lessened k (c (getD xs k 0)) (completions r c xs)) ≡ completions r c (rest k xs)
+  unfolding completions lessened weight
+  completions-rest [] k h = absurd (omega arith)
+  completions-rest (x ∷ xs) zero h = refl
+  completions-rest (x ∷ xs) (suc k) h =
+      let w = weight-rest c xs k (omega arith) in
+      let z : r x + (c x + weight c xs) - c (getD xs k 0) ≡ r x + (c x + weight c (rest k xs)) = omega arith in
+      rw (z, completions-rest xs k (omega arith))
+
+  -- The same of an array whose first n numbers are the completions; x is the execution of the sub-job at k.
+  module _ (xs es : List ℕ) (n k x : ℕ) (e : take n es ≡ completions r c xs) (l : length xs ≡ n) (h : k < n) (q : c (getD xs k 0) ≡ x) where
+    pub enough : (i : ℕ) → i < k → x ≤ getD es i 0
+    enough i j =
+        omega
+        (arith, completions-hold xs k i (omega arith) j, ap (λ (ms : List ℕ). getD ms i 0) e, getD-take n es i 0 (omega arith))
+
+    pub leaves : rest k (take n (lessened k x es)) ≡ completions r c (rest k xs)
+    leaves = rw (take-lessened n k x es (omega arith), e, ← q) (completions-rest xs k (omega arith))
+
+  module _ (xs es : List ℕ) (e : completions r c xs ≡ es) where
+    pub held-length : length xs ≡ length es
+    held-length = sym (completions-length xs) ∙ ap length e
+
+    module _ (i : ℕ) (h : i < length es) where
+      here : i < length xs
+      here = omega (arith, held-length)
+
+      held : getD es i 0 ≡ r (getD xs i 0) + weight c (getD xs i 0 ∷ drop (suc i) xs)
+      held = rw (← e) (completions-at xs i here ∙ rw (drop-cons xs i 0 here))
+
+      best-at : best r c (drop i xs) ≡ max (getD es i 0) (best r c (drop (suc i) xs))
+      unfolding best
+      best-at = rw (held, drop-cons xs i 0 here)
+
+      base-at : base r c (drop i xs) ≡ cond (ltb (best r c (drop (suc i) xs)) (getD es i 0)) (drop i xs) (base r c (drop (suc i) xs))
+      unfolding base
+      base-at = rw (held, drop-cons xs i 0 here)
+
+      -- One tail more, which starts at i: it is the base subset if its completion is above that of all later ones.
+      module _ (k start : ℕ) (q : suc i ≡ k) (b : getD es start 0 ≡ best r c (drop k xs)) (s : drop start xs ≡ base r c (drop k xs)) where
+        pub passes : getD es start 0 < getD es i 0 → (getD es i 0 ≡ best r c (drop i xs)) × (drop i xs ≡ base r c (drop i xs))
+        passes l = (omega (arith, best-at, rw (← q) at b), sym (base-at ∙ rw (q, ← b, lt-ltb _ _ l)))
+
+        pub keeps : getD es i 0 ≤ getD es start 0 → (getD es start 0 ≡ best r c (drop i xs)) × (drop start xs ≡ base r c (drop i xs))
+        keeps l = (omega (arith, best-at, rw (← q) at b), sym (base-at ∙ rw (q, ← b, le-ltb _ _ l, s)))
+
+    -- The latest tail is the base subset of itself.
+    pub latest : (i : ℕ) → suc i ≡ length es → 1 ≤ getD es i 0 → (getD es i 0 ≡ best r c (drop i xs)) × (drop i xs ≡ base r c (drop i xs))
+    unfolding best base
+    latest i q l = (omega (arith, best-at i (omega arith), none), sym (base-at i (omega arith) ∙ rw (none, lt-ltb _ _ l)))
+      where
+        none : best r c (drop (suc i) xs) ≡ 0
+        none = rw (q, ← held-length, drop-length xs)
+
+-- Sub-jobs of a set that fits: their completions are positive and at most 1,128,000,000.
+module _
+    (releases executions : List ℕ)
+    (ranges : (i : ℕ) → i < length releases → (getD releases i 0 ≤ 1_000_000_000) × (1 ≤ getD executions i 0) × (getD executions i 0 ≤ 1_000_000))
+    (xs : List ℕ)
+    (below : Every (λ p. p < length releases) xs)
+  where
+    pub fit-some : Every (λ m. 1 ≤ m) (completions (λ i. getD releases i 0) (λ i. getD executions i 0) xs)
+    fit-some =
+        completions-some (λ i. getD releases i 0) (λ i. getD executions i 0) xs
+        (every-more (λ p. p < length releases) (λ p. 1 ≤ getD executions p 0) (λ p h. ranges p h .1) xs below)
+
+    pub fit-most : length xs ≤ 128 → (i : ℕ) → i < length xs → getD (completions (λ j. getD releases j 0) (λ j. getD executions j 0) xs) i 0 ≤ 1_128_000_000
+    fit-most =
+        completions-most (λ j. getD releases j 0) (λ j. getD executions j 0) xs
+        (every-more (λ p. p < length releases) (λ p. (getD releases p 0 ≤ 1_000_000_000) × (getD executions p 0 ≤ 1_000_000)) (λ p h. (ranges p h .0, ranges p h .2)) xs below)
