@@ -1,7 +1,7 @@
 /* Charoktan: local deadlines for the loading sub-jobs of one preemptive console core.
  *
- * For C11 and C++17 and later. Link libcharoktan.a (x86-64 Linux); of the C library it needs
- * memcpy and memset. A set is 0 to 128 sub-jobs, an array of the struct below; places in it count
+ * For C11 and C++17 and later. Link libcharoktan.a (x86-64 Linux); of the C library it needs at
+ * most memcpy and memset. A set is 0 to 128 sub-jobs, an array of the struct below; places in it count
  * from 0, time is counted in whole ticks. charoktan_assign gives every sub-job its local deadline
  * or refuses the set, charoktan_check judges deadlines that anybody proposes. The number that they
  * return and every byte that they write are proved, for all bytes and all lengths lent to them.

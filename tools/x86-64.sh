@@ -7,7 +7,8 @@
 #                                 x86_64_start (the words to put before a program)
 #   x86_64_qemu                   sets the array x86_64_emulator (QEMU's user mode, on any machine);
 #                                 to be called after x86_64_compiler
-#   x86_64_archive                sets x86_64_library, the archive, made by rt if it is missing
+#   x86_64_archive                sets x86_64_library, the archive, made by rt if it is missing or
+#                                 older than a file of the crates
 #
 # CHAROKTAN_ARCHIVE names an archive to take in the place of the tree's own. Link no program with
 # -static: Debian's cross compiler has no static libm that links.
@@ -62,7 +63,9 @@ x86_64_archive() {
     local tree
     tree=$(cd "$(dirname "${BASH_SOURCE[0]}")/.." && pwd)
     x86_64_library=${CHAROKTAN_ARCHIVE:-$tree/target/staticlib/libcharoktan.a}
-    [ -e "$x86_64_library" ] || [ -n "${CHAROKTAN_ARCHIVE:-}" ] ||
+    if [ -z "${CHAROKTAN_ARCHIVE:-}" ] && { [ ! -e "$x86_64_library" ] ||
+        [ -n "$(find "$tree/crates" "$tree/crates.txt" -newer "$x86_64_library" -print -quit)" ]; }; then
         (cd "$tree" && rt staticlib charoktan) >&2 || x86_64_fail "rt staticlib charoktan failed"
+    fi
     [ -e "$x86_64_library" ] || x86_64_fail "there is no archive $x86_64_library"
 }

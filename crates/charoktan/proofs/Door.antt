@@ -1,33 +1,28 @@
 -- The door's answer at each of its ways out.
-use Prim.Native.Nat.{ℕ, zero, suc, _*_, _/_, _%_, _≤_, _<_}
+use Prim.Native.Nat.{ℕ, _*_, _/_, _%_, _≤_, _<_}
 use mathlib.Core.Bool.{Bool, true, false}
 use mathlib.Core.List.{List, _++_}
-use mathlib.Core.Path.{_≡_, refl, sym, _∙_}
-use native.Mathlib.Omega.{arith}
+use mathlib.Core.Path.{_≡_, refl, sym, ap, _∙_}
 use borrow.Author.Tests.{eq-eqb, eqb-true}
 use lib.Dec.{eqb}
-use lib.ListN.{length, take, drop, replicate, length-append, length-replicate}
+use lib.ListN.{length, take, drop, replicate, length-replicate}
 use lib.Seq.{take-at}
-use Rattle.lists.proofs.Cases.{both}
-use Rattle.lists.proofs.Mapped.{take-replicate}
 use Rattle.subjobs.specs.declared.Reason.the-variants.{TooMany}
 use Rattle.subjobs.specs.Sets.{Subjobs, size}
 use Rattle.subjobs.specs.Judging.{oneLength}
-use Rattle.subjobs.proofs.Lengths.{judged-many}
 use Rattle.olda.specs.declared.Answer.{Answer}
 use Rattle.olda.specs.declared.Answer.the-variants.{Refused}
 use Rattle.olda.specs.Answers.{answer, results}
+use Rattle.lists.proofs.Cases.{both}
+use Rattle.lists.proofs.Mapped.{take-replicate}
+use Rattle.subjobs.proofs.Lengths.{judged-many}
 use Rattle.olda.proofs.Results.{results-length}
+use Rattle.charoktan.specs.Records.{words, count, records, encoded, fitting}
+use Rattle.charoktan.specs.Answers.{checking, checked, placing, assigned, ifPlaced, assignedBytes}
+use Rattle.charoktan.proofs.Coding.{length-column}
 use Rattle.checker.specs.declared.Answer as checker
 use Rattle.checker.specs.declared.Answer.the-variants as check
 use Rattle.checker.specs.Answers as checkers
-use Rattle.charoktan.specs.Records.{words, column, count, records, encoded, fitting}
-use Rattle.charoktan.specs.Answers.{checking, checked, placing, assigned, ifPlaced, assignedBytes}
-
-length-column : (bs : List ℕ) (w k n : ℕ) → length (column bs w k n) ≡ n
-unfolding column
-length-column bs w k zero = refl
-length-column bs w k (suc n) = simp length-append (omega (arith, length-column bs w k n))
 
 -- The lengths that fit: whole records, and 4 bytes of results for each.
 pub fit-length : (bs : List ℕ) (m : ℕ) → fitting bs m ≡ true → m ≡ 4 * (length bs / 24)
@@ -69,10 +64,19 @@ module _ (bs out : List ℕ) where
         (too-many (records bs) (count bs) (one-length-records bs (eqb (count bs) (size (records bs))) (eq-eqb _ _ (sym (size-records bs))))
         (rw size-records h))
 
--- What the assignment left in the front of the room is what it gives for zeros.
-pub front : (s : Subjobs) (n : ℕ) (local : List ℕ) → n ≤ 128 → local ≡ results s (take n (replicate 128 0)) ++ drop n (replicate 128 0) → take n local ≡ results s (replicate n 0)
-front s n local h e =
-    rw (e, take-replicate n 128 0 h) (take-at (results s (replicate n 0)) (drop n (replicate 128 0)) n (results-length s (replicate n 0) ∙ length-replicate {A = ℕ} n 0))
+-- What the assignment left in the front of a room of zeros is what it gives for zeros.
+pub front :
+    (s : Subjobs) (n : ℕ) (zeros local : List ℕ)
+    → n ≤ length zeros
+    → zeros ≡ replicate (length zeros) 0
+    → local ≡ results s (take n zeros) ++ drop n zeros
+    → take n local ≡ results s (replicate n 0)
+front s n zeros local h z e =
+    let t : take n zeros ≡ replicate n 0 = ap (take n) z ∙ take-replicate n (length zeros) 0 h in
+    e′ t
+  where
+    e′ : take n zeros ≡ replicate n 0 → take n local ≡ results s (replicate n 0)
+    e′ t = rw (e, t) (take-at (results s (replicate n 0)) (drop n zeros) n (results-length s (replicate n 0) ∙ length-replicate {A = ℕ} n 0))
 
 module _ (bs ds : List ℕ) where
   pub unfit-check : fitting bs (length ds) ≡ false → checked bs ds ≡ 1

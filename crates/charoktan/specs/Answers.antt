@@ -7,6 +7,7 @@
 use Prim.Native.Nat.{ℕ, _+_, _*_}
 use mathlib.Core.Bool.{cond}
 use mathlib.Core.List.{List}
+use mathlib.Core.Path.{_≡_}
 use lib.ListN.{length, replicate}
 use Rattle.subjobs.specs.declared.Reason.{Reason}
 use Rattle.subjobs.specs.Reasons.{numberOf, placeOf}
@@ -49,3 +50,11 @@ assignedBytes bs out =
 unfoldable pub checked : List ℕ → List ℕ → ℕ
 checked bs ds =
     cond (fitting bs (length ds)) (checking (checkers.answer (records bs) (words ds (count bs)))) 1
+
+-- What `charoktan_assign` is held to: the number returned, and what the results hold afterwards.
+abbrev pub AssignsBytes : (bs out : List ℕ) → ℕ → List ℕ → Type 0
+AssignsBytes bs out r out′ = (r ≡ assigned bs (length out)) × (out′ ≡ assignedBytes bs out)
+
+-- What `charoktan_check` is held to.
+abbrev pub ChecksBytes : (bs ds : List ℕ) → ℕ → Type 0
+ChecksBytes bs ds r = r ≡ checked bs ds

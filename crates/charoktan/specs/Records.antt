@@ -3,15 +3,17 @@
 --   word bs at       == the 32-bit little-endian number at byte at
 --   column bs w k n  == the numbers at byte k of each of n records of w bytes
 --   records bs       == the set that the bytes hold
+--   Fields bs n i l  == the six fields of the first i records stand in l, in lists n places apart
 --   bytes v          == the four bytes of a number, little-endian
 --   encoded vs       == the bytes of a list of numbers
 --   words bs n       == the n numbers that these bytes hold
 --   fitting bs m     == the lengths fit: whole records, and 4 bytes of results for each
-use Prim.Native.Nat.{ℕ, zero, suc, _+_, _*_, _/_, _%_}
+use Prim.Native.Nat.{ℕ, zero, suc, _+_, _*_, _/_, _%_, _<_}
 use mathlib.Core.Bool.{Bool, _&&_}
 use mathlib.Core.List.{List, [], _∷_, _++_}
+use mathlib.Core.Path.{_≡_}
 use lib.Dec.{eqb}
-use lib.ListN.{length, getD}
+use lib.ListN.{length, getD, take, drop}
 use Rattle.subjobs.specs.Sets.{Subjobs, subjobs}
 
 abbrev pub word : List ℕ → ℕ → ℕ
@@ -31,6 +33,10 @@ unfoldable pub records : List ℕ → Subjobs
 records bs =
     let field : ℕ → List ℕ = λ k. column bs 24 k (count bs) in
     subjobs (field 0) (field 4) (field 8) (field 12) (field 16) (field 20)
+
+-- the same six fields of i records, in lists that stand n places apart: what the code has read
+abbrev pub Fields : List ℕ → (n i : ℕ) → List ℕ → Type 0
+Fields bs n i l = (k : ℕ) → k < 6 → take i (drop (n * k) l) ≡ column bs 24 (4 * k) i
 
 -- results are 4 bytes little-endian each
 abbrev pub bytes : ℕ → List ℕ

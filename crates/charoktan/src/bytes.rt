@@ -3,7 +3,7 @@ ghost use Prim.Native.Nat.{ℕ, _+_, _*_, _≤_, _<_};
 ghost use mathlib.Core.Path.{_≡_};
 ghost use mathlib.Core.List.{_++_};
 ghost use lib.ListN.{length, take, drop};
-ghost use Rattle.charoktan.specs.Records.{word, column, bytes, encoded};
+ghost use Rattle.charoktan.specs.Records.{word, column, Fields, bytes, encoded};
 
 fn wide(x: u8) -> u32
     ensures { λ r. ⌜ (r ≡ x) × (r < 256) ⌝ }
@@ -22,38 +22,48 @@ fn word(bytes: &[u8], at: usize) -> u32
         + 16_777_216 * wide(bytes[at + 3])
 }
 
-// The numbers at one byte of each of n records, to the front of `out`.
-pub(crate) fn column(bytes: &[u8], width: usize, at: usize, n: usize, out: &mut [u32])
-    requires { ⌜ (width * n ≤ length (now bytes)) × (at + 4 ≤ width) × (n ≤ length (now out)) ⌝ }
-    ensures { λ _. ⌜ (take n (now (out .exit)) ≡ column (now (bytes .entry)) width at n) × (length (now (out .exit)) ≡ length (now (out .entry))) ⌝ }
+// The numbers at one byte of each record, as many as `out` has places.
+pub(crate) fn column(bytes: &[u8], width: usize, at: usize, out: &mut [u32])
+    requires { ⌜ (width * length (now out) ≤ length (now bytes)) × (at + 4 ≤ width) ⌝ }
+    ensures { λ _. ⌜ now (out .exit) ≡ column (now (bytes .entry)) width at (length (now (out .entry))) ⌝ }
 {
     let mut i = 0;
-    while i < n {
+    while i < out.len() {
         out[i] = word(bytes, width * i + at);
         i += 1;
     }
 }
 
-// The six fields of n records, each to the front of a list of its own.
-pub(crate) fn columns(
-    bytes: &[u8],
-    n: usize,
-    jobs: &mut [u32],
-    subtasks: &mut [u32],
-    releases: &mut [u32],
-    executions: &mut [u32],
-    deadlines: &mut [u32],
-    criticals: &mut [u32],
-)
-    requires { ⌜ (24 * n ≤ length (now bytes)) × (n ≤ length (now jobs)) × (n ≤ length (now subtasks)) × (n ≤ length (now releases)) × (n ≤ length (now executions)) × (n ≤ length (now deadlines)) × (n ≤ length (now criticals)) ⌝ }
-    ensures { λ _. ⌜ (take n (now (jobs .exit)) ≡ column (now (bytes .entry)) 24 0 n) × (take n (now (subtasks .exit)) ≡ column (now (bytes .entry)) 24 4 n) × (take n (now (releases .exit)) ≡ column (now (bytes .entry)) 24 8 n) × (take n (now (executions .exit)) ≡ column (now (bytes .entry)) 24 12 n) × (take n (now (deadlines .exit)) ≡ column (now (bytes .entry)) 24 16 n) × (take n (now (criticals .exit)) ≡ column (now (bytes .entry)) 24 20 n) ⌝ }
+// The six fields of record i, each to the list of its field; the lists stand n places apart.
+fn record(bytes: &[u8], i: usize, n: usize, out: &mut [u32])
+    requires { ⌜ (i < n) × (24 * n ≤ length (now bytes)) × (6 * n ≤ length (now out)) × Fields (now bytes) n i (now out) ⌝ }
+    ensures { λ _. ⌜ Fields (now (bytes .entry)) n (i + 1) (now (out .exit)) ⌝ }
 {
-    column(bytes, 24, 0, n, jobs);
-    column(bytes, 24, 4, n, subtasks);
-    column(bytes, 24, 8, n, releases);
-    column(bytes, 24, 12, n, executions);
-    column(bytes, 24, 16, n, deadlines);
-    column(bytes, 24, 20, n, criticals);
+    let mut k = 0;
+    while k < 6 {
+        out[n * k + i] = word(bytes, 24 * i + 4 * k);
+        k += 1;
+    }
+}
+
+// The six fields of n records, one list after the other.
+pub(crate) fn columns(bytes: &[u8], n: usize, out: &mut [u32])
+    requires { ⌜ (24 * n ≤ length (now bytes)) × (6 * n ≤ length (now out)) ⌝ }
+    ensures { λ _. ⌜ Fields (now (bytes .entry)) n n (now (out .exit)) ⌝ }
+{
+    let mut i = 0;
+    while i < n {
+        record(bytes, i, n, out);
+        i += 1;
+    }
+}
+
+// The k-th of the lists of n numbers that stand one after the other.
+pub(crate) fn field(lists: &[u32], n: usize, k: usize) -> &[u32]
+    requires { ⌜ (k < 7) × (n * k + n ≤ length (now lists)) ⌝ }
+    ensures { λ r. ⌜ now r ≡ take n (drop (n * k) (now (lists .entry))) ⌝ }
+{
+    &lists[n * k..n * (k + 1)]
 }
 
 // The four bytes of a number, at a byte.

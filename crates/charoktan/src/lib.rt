@@ -1,15 +1,14 @@
 // The engine's door: the assignment and the checker on the engine's own bytes, 24 for each sub-job.
 ghost use Prim.Native.Nat.{ℕ, _+_, _*_, _/_, _<_, _≤_};
 ghost use mathlib.Core.Path.{_≡_};
-ghost use mathlib.Core.List.{_++_};
-ghost use lib.Dec.{eqb};
+ghost use mathlib.Core.Bool.{true};
+ghost use mathlib.Core.List.{List, _++_};
 ghost use lib.ListN.{length, take, drop, replicate};
-ghost use Rattle.subjobs.specs.Sets.{subjobs};
 ghost use Rattle.subjobs.specs.Reasons.{placeOf};
 ghost use Rattle.olda.specs.Answers.{answer, results};
 ghost use Rattle.checker.specs.Answers as checking;
-ghost use Rattle.charoktan.specs.Records.{fitting, records, words};
-ghost use Rattle.charoktan.specs.Answers.{code, assigned, assignedBytes, checked};
+ghost use Rattle.charoktan.specs.Records.{fitting, count, records, Fields, words};
+ghost use Rattle.charoktan.specs.Answers.{code, AssignsBytes, ChecksBytes};
 use checker::Answer as Checked;
 use olda::Answer;
 use subjobs::Reason;
@@ -31,210 +30,64 @@ fn fitting(records: &[u8], results: usize) -> bool
     (records.len() % 24 == 0) & (results == 4 * (records.len() / 24))
 }
 
-// The assignment on the first n places of each list.
-fn assign_front(
-    jobs: &[u32],
-    subtasks: &[u32],
-    releases: &[u32],
-    executions: &[u32],
-    deadlines: &[u32],
-    criticals: &[u32],
-    n: usize,
-    out: &mut [u32],
-) -> Answer
-    requires { ⌜ (n ≤ length (now jobs)) × (n ≤ length (now subtasks)) × (n ≤ length (now releases)) × (n ≤ length (now executions)) × (n ≤ length (now deadlines)) × (n ≤ length (now criticals)) × (n ≤ length (now out)) ⌝ }
-    ensures { λ r. ⌜ (r ≡ answer (subjobs (take n (now (jobs .entry))) (take n (now (subtasks .entry))) (take n (now (releases .entry))) (take n (now (executions .entry))) (take n (now (deadlines .entry))) (take n (now (criticals .entry)))) n) × (now (out .exit) ≡ results (subjobs (take n (now (jobs .entry))) (take n (now (subtasks .entry))) (take n (now (releases .entry))) (take n (now (executions .entry))) (take n (now (deadlines .entry))) (take n (now (criticals .entry)))) (take n (now (out .entry))) ++ drop n (now (out .entry))) ⌝ }
+// The assignment on the n sub-jobs whose fields stand in one list after the other.
+fn assign_fields(fields: &[u32], n: usize, out: &mut [u32]) -> Answer
+    requires { ⌜ (6 * n ≤ length (now fields)) × (n ≤ length (now out)) ⌝ }
+    ensures { λ r. ⌜ ((bs : List ℕ) → n ≡ count bs → Fields bs n n (now (fields .entry)) → (r ≡ answer (records bs) n) × (now (out .exit) ≡ results (records bs) (take n (now (out .entry))) ++ drop n (now (out .entry)))) ⌝ }
 {
     olda::assign(
-        &jobs[..n],
-        &subtasks[..n],
-        &releases[..n],
-        &executions[..n],
-        &deadlines[..n],
-        &criticals[..n],
+        bytes::field(fields, n, 0),
+        bytes::field(fields, n, 1),
+        bytes::field(fields, n, 2),
+        bytes::field(fields, n, 3),
+        bytes::field(fields, n, 4),
+        bytes::field(fields, n, 5),
         &mut out[..n],
     )
 }
 
-// The assignment on n records, with room for their fields lent.
-fn assign_records(
-    bytes: &[u8],
-    n: usize,
-    jobs: &mut [u32],
-    subtasks: &mut [u32],
-    releases: &mut [u32],
-    executions: &mut [u32],
-    deadlines: &mut [u32],
-    criticals: &mut [u32],
-    out: &mut [u32],
-) -> Answer
-    requires { ⌜ (n ≡ length (now bytes) / 24) × (n ≤ length (now jobs)) × (n ≤ length (now subtasks)) × (n ≤ length (now releases)) × (n ≤ length (now executions)) × (n ≤ length (now deadlines)) × (n ≤ length (now criticals)) × (n ≤ length (now out)) ⌝ }
-    ensures { λ r. ⌜ (r ≡ answer (records (now (bytes .entry))) n) × (now (out .exit) ≡ results (records (now (bytes .entry))) (take n (now (out .entry))) ++ drop n (now (out .entry))) ⌝ }
+// The assignment on whole records, with room lent for their fields and for the local deadlines, which holds zeros.
+fn assign_in(records: &[u8], deadlines: &mut [u8], fields: &mut [u32], local: &mut [u32]) -> u32
+    requires { ⌜ (fitting (now records) (length (now deadlines)) ≡ true) × (count (now records) ≤ 128) × (6 * count (now records) ≤ length (now fields)) × (count (now records) ≤ length (now local)) × (now local ≡ replicate (length (now local)) 0) ⌝ }
+    ensures { λ r. ⌜ AssignsBytes (now (records .entry)) (now (deadlines .entry)) r (now (deadlines .exit)) ⌝ }
 {
-    bytes::columns(
-        bytes,
-        n,
-        jobs,
-        subtasks,
-        releases,
-        executions,
-        deadlines,
-        criticals,
-    );
-    assign_front(
-        jobs,
-        subtasks,
-        releases,
-        executions,
-        deadlines,
-        criticals,
-        n,
-        out,
-    )
-}
-
-// The same, with the room for their fields made here.
-fn assign_bytes(bytes: &[u8], n: usize, out: &mut [u32]) -> Answer
-    requires { ⌜ (n ≡ length (now bytes) / 24) × (n ≤ 128) × (n ≤ length (now out)) ⌝ }
-    ensures { λ r. ⌜ (r ≡ answer (records (now (bytes .entry))) n) × (now (out .exit) ≡ results (records (now (bytes .entry))) (take n (now (out .entry))) ++ drop n (now (out .entry))) ⌝ }
-{
-    let mut jobs = [0u32; 128];
-    let mut subtasks = [0u32; 128];
-    let mut releases = [0u32; 128];
-    let mut executions = [0u32; 128];
-    let mut deadlines = [0u32; 128];
-    let mut criticals = [0u32; 128];
-    assign_records(
-        bytes,
-        n,
-        &mut jobs,
-        &mut subtasks,
-        &mut releases,
-        &mut executions,
-        &mut deadlines,
-        &mut criticals,
-        out,
-    )
-}
-
-// The assignment: 0, with the deadlines written, or a refusal's number, with every byte left as it was.
-#[no_mangle]
-pub extern "C" fn charoktan_assign(records: &[u8], deadlines: &mut [u8]) -> u32
-    ensures { λ r. ⌜ (r ≡ assigned (now (records .entry)) (length (now (deadlines .entry)))) × (now (deadlines .exit) ≡ assignedBytes (now (records .entry)) (now (deadlines .entry))) ⌝ }
-{
-    if !fitting(records, deadlines.len()) {
-        return 1;
-    }
     let n = records.len() / 24;
-    if 128 < n {
-        return 2;
-    }
-    let mut local = [0u32; 128];
-    let answer = assign_bytes(records, n, &mut local);
+    bytes::columns(records, n, fields);
+    let answer = assign_fields(fields, n, local);
     match answer {
         Answer::Refused(reason) => code(reason),
         Answer::Nothing => 0,
         Answer::Placed(_) => {
-            bytes::put_all(&local, n, deadlines);
+            bytes::put_all(local, n, deadlines);
             0
         }
     }
 }
 
-// The checker on the first n places of each list.
-fn check_front(
-    jobs: &[u32],
-    subtasks: &[u32],
-    releases: &[u32],
-    executions: &[u32],
-    deadlines: &[u32],
-    criticals: &[u32],
-    proposed: &[u32],
-    n: usize,
-) -> Checked
-    requires { ⌜ (n ≤ length (now jobs)) × (n ≤ length (now subtasks)) × (n ≤ length (now releases)) × (n ≤ length (now executions)) × (n ≤ length (now deadlines)) × (n ≤ length (now criticals)) × (n ≤ length (now proposed)) ⌝ }
-    ensures { λ r. ⌜ r ≡ checking.answer (subjobs (take n (now (jobs .entry))) (take n (now (subtasks .entry))) (take n (now (releases .entry))) (take n (now (executions .entry))) (take n (now (deadlines .entry))) (take n (now (criticals .entry)))) (take n (now (proposed .entry))) ⌝ }
+// The same with the room made here, for up to 16 sub-jobs: less of it is cleared before each call.
+fn assign_few(records: &[u8], deadlines: &mut [u8]) -> u32
+    requires { ⌜ (fitting (now records) (length (now deadlines)) ≡ true) × (count (now records) ≤ 16) ⌝ }
+    ensures { λ r. ⌜ AssignsBytes (now (records .entry)) (now (deadlines .entry)) r (now (deadlines .exit)) ⌝ }
 {
-    checker::check(
-        &jobs[..n],
-        &subtasks[..n],
-        &releases[..n],
-        &executions[..n],
-        &deadlines[..n],
-        &criticals[..n],
-        &proposed[..n],
-    )
+    let mut fields = [0u32; 96];
+    let mut local = [0u32; 16];
+    assign_in(records, deadlines, &mut fields, &mut local)
 }
 
-// The checker on n records, with room for their fields and the proposed deadlines lent.
-fn check_records(
-    bytes: &[u8],
-    times: &[u8],
-    n: usize,
-    jobs: &mut [u32],
-    subtasks: &mut [u32],
-    releases: &mut [u32],
-    executions: &mut [u32],
-    deadlines: &mut [u32],
-    criticals: &mut [u32],
-    proposed: &mut [u32],
-) -> Checked
-    requires { ⌜ (n ≡ length (now bytes) / 24) × (4 * n ≤ length (now times)) × (n ≤ length (now jobs)) × (n ≤ length (now subtasks)) × (n ≤ length (now releases)) × (n ≤ length (now executions)) × (n ≤ length (now deadlines)) × (n ≤ length (now criticals)) × (n ≤ length (now proposed)) ⌝ }
-    ensures { λ r. ⌜ r ≡ checking.answer (records (now (bytes .entry))) (words (now (times .entry)) n) ⌝ }
+// The same for up to 128.
+fn assign_many(records: &[u8], deadlines: &mut [u8]) -> u32
+    requires { ⌜ (fitting (now records) (length (now deadlines)) ≡ true) × (count (now records) ≤ 128) ⌝ }
+    ensures { λ r. ⌜ AssignsBytes (now (records .entry)) (now (deadlines .entry)) r (now (deadlines .exit)) ⌝ }
 {
-    bytes::column(times, 4, 0, n, proposed);
-    bytes::columns(
-        bytes,
-        n,
-        jobs,
-        subtasks,
-        releases,
-        executions,
-        deadlines,
-        criticals,
-    );
-    check_front(
-        jobs,
-        subtasks,
-        releases,
-        executions,
-        deadlines,
-        criticals,
-        proposed,
-        n,
-    )
+    let mut fields = [0u32; 768];
+    let mut local = [0u32; 128];
+    assign_in(records, deadlines, &mut fields, &mut local)
 }
 
-// The same, with the room made here.
-fn check_bytes(bytes: &[u8], times: &[u8], n: usize) -> Checked
-    requires { ⌜ (n ≡ length (now bytes) / 24) × (n ≤ 128) × (4 * n ≤ length (now times)) ⌝ }
-    ensures { λ r. ⌜ r ≡ checking.answer (records (now (bytes .entry))) (words (now (times .entry)) n) ⌝ }
-{
-    let mut jobs = [0u32; 128];
-    let mut subtasks = [0u32; 128];
-    let mut releases = [0u32; 128];
-    let mut executions = [0u32; 128];
-    let mut deadlines = [0u32; 128];
-    let mut criticals = [0u32; 128];
-    let mut proposed = [0u32; 128];
-    check_records(
-        bytes,
-        times,
-        n,
-        &mut jobs,
-        &mut subtasks,
-        &mut releases,
-        &mut executions,
-        &mut deadlines,
-        &mut criticals,
-        &mut proposed,
-    )
-}
-
-// The checker: 0 if the proposed deadlines are accepted, or a refusal's number.
+// The assignment: 0, with the deadlines written, or a refusal's number, with every byte left as it was.
 #[no_mangle]
-pub extern "C" fn charoktan_check(records: &[u8], deadlines: &[u8]) -> u32
-    ensures { λ r. ⌜ r ≡ checked (now (records .entry)) (now (deadlines .entry)) ⌝ }
+pub extern "C" fn charoktan_assign(records: &[u8], deadlines: &mut [u8]) -> u32
+    ensures { λ r. ⌜ AssignsBytes (now (records .entry)) (now (deadlines .entry)) r (now (deadlines .exit)) ⌝ }
 {
     if !fitting(records, deadlines.len()) {
         return 1;
@@ -243,9 +96,77 @@ pub extern "C" fn charoktan_check(records: &[u8], deadlines: &[u8]) -> u32
     if 128 < n {
         return 2;
     }
-    let answer = check_bytes(records, deadlines, n);
+    if n <= 16 {
+        assign_few(records, deadlines)
+    } else {
+        assign_many(records, deadlines)
+    }
+}
+
+// The checker on the n sub-jobs whose fields, and then the proposed deadlines, stand in one list after the other.
+fn check_fields(fields: &[u32], n: usize) -> Checked
+    requires { ⌜ 7 * n ≤ length (now fields) ⌝ }
+    ensures { λ r. ⌜ ((bs ds : List ℕ) → n ≡ count bs → Fields bs n n (now (fields .entry)) → take n (drop (n * 6) (now (fields .entry))) ≡ words ds n → r ≡ checking.answer (records bs) (words ds n)) ⌝ }
+{
+    checker::check(
+        bytes::field(fields, n, 0),
+        bytes::field(fields, n, 1),
+        bytes::field(fields, n, 2),
+        bytes::field(fields, n, 3),
+        bytes::field(fields, n, 4),
+        bytes::field(fields, n, 5),
+        bytes::field(fields, n, 6),
+    )
+}
+
+// The checker on whole records, with room lent for their fields and the proposed deadlines.
+fn check_in(records: &[u8], deadlines: &[u8], fields: &mut [u32]) -> u32
+    requires { ⌜ (fitting (now records) (length (now deadlines)) ≡ true) × (count (now records) ≤ 128) × (7 * count (now records) ≤ length (now fields)) ⌝ }
+    ensures { λ r. ⌜ ChecksBytes (now (records .entry)) (now (deadlines .entry)) r ⌝ }
+{
+    let n = records.len() / 24;
+    bytes::columns(records, n, fields);
+    bytes::column(deadlines, 4, 0, &mut fields[6 * n..7 * n]);
+    let answer = check_fields(fields, n);
     match answer {
         Checked::Refused(reason) => code(reason),
         Checked::Accepted => 0,
+    }
+}
+
+// The same with the room made here, for up to 16 sub-jobs.
+fn check_few(records: &[u8], deadlines: &[u8]) -> u32
+    requires { ⌜ (fitting (now records) (length (now deadlines)) ≡ true) × (count (now records) ≤ 16) ⌝ }
+    ensures { λ r. ⌜ ChecksBytes (now (records .entry)) (now (deadlines .entry)) r ⌝ }
+{
+    let mut fields = [0u32; 112];
+    check_in(records, deadlines, &mut fields)
+}
+
+// The same for up to 128.
+fn check_many(records: &[u8], deadlines: &[u8]) -> u32
+    requires { ⌜ (fitting (now records) (length (now deadlines)) ≡ true) × (count (now records) ≤ 128) ⌝ }
+    ensures { λ r. ⌜ ChecksBytes (now (records .entry)) (now (deadlines .entry)) r ⌝ }
+{
+    let mut fields = [0u32; 896];
+    check_in(records, deadlines, &mut fields)
+}
+
+// The checker: 0 if the proposed deadlines are accepted, or a refusal's number.
+#[no_mangle]
+pub extern "C" fn charoktan_check(records: &[u8], deadlines: &[u8]) -> u32
+    ensures { λ r. ⌜ ChecksBytes (now (records .entry)) (now (deadlines .entry)) r ⌝ }
+{
+    if !fitting(records, deadlines.len()) {
+        return 1;
+    }
+    let n = records.len() / 24;
+    if 128 < n {
+        return 2;
+    }
+    if n <= 16 {
+        check_few(records, deadlines)
+    } else {
+        check_many(records, deadlines)
     }
 }

@@ -7,6 +7,7 @@
 use Prim.Native.Nat.{ℕ, _+_}
 use mathlib.Core.Bool.{cond, _&&_}
 use mathlib.Core.List.{List, [], _∷_}
+use mathlib.Core.Path.{_≡_}
 use lib.Dec.{leb, eqb}
 use lib.IntN.{ℤ, pos}
 use lib.ListN.{length, getD}
@@ -41,3 +42,7 @@ answer s ds = ifPassed (orElse (judgement s (eqb (length ds) (size s))) (orElse 
 abbrev pub values : Answer → List ℤ
 values Accepted = pos 0 ∷ []
 values (Refused r) = reasons.values r
+
+-- What `check` is held to.
+abbrev pub Checks : Subjobs → List ℕ → Answer → Type 0
+Checks s ds r = r ≡ answer s ds

@@ -1,7 +1,6 @@
 // The checker of hand-set deadlines: it accepts exactly what meets the published conditions (6) and (7).
-ghost use mathlib.Core.Path.{_≡_};
 ghost use Rattle.subjobs.specs.Sets.{subjobs};
-ghost use Rattle.checker.specs.Answers.{answer};
+ghost use Rattle.checker.specs.Answers.{Checks};
 
 mod conditions;
 
@@ -24,7 +23,7 @@ pub fn check(
     criticals: &[u32],
     proposed: &[u32],
 ) -> Answer
-    ensures { λ r. ⌜ r ≡ answer (subjobs (now (jobs .entry)) (now (subtasks .entry)) (now (releases .entry)) (now (executions .entry)) (now (deadlines .entry)) (now (criticals .entry))) (now (proposed .entry)) ⌝ }
+    ensures { λ r. ⌜ Checks (subjobs (now (jobs .entry)) (now (subtasks .entry)) (now (releases .entry)) (now (executions .entry)) (now (deadlines .entry)) (now (criticals .entry))) (now (proposed .entry)) r ⌝ }
 {
     let others = proposed.len() == jobs.len();
     let judged = subjobs::judge(

@@ -21,8 +21,8 @@ use Rattle.edf.specs.declared.Simulated.{Simulated}
 use Rattle.edf.specs.declared.Answer.the-variants.{Ran, Refused}
 use Rattle.edf.specs.Core.{Core}
 use Rattle.edf.specs.Runs.{horizon, finish, end, busyTicks, idleTicks}
-use Rattle.edf.specs.Answers.{Run, runOf, run, added, above, furtherLists, answer, totals, finishes}
-use Rattle.edf.specs.Events.{at, owedIn, soonerIn, final, endOf, readOff, settled, written, simulated, Sized, Ranged, Settling}
+use Rattle.edf.specs.Answers.{Run, runOf, run, added, above, furtherLists, answer, totals, finishes, simulated}
+use Rattle.edf.specs.Events.{at, owedIn, soonerIn, final, endOf, readOff, settled, written, Sized, Ranged, Settling}
 use Rattle.edf.proofs.Turns.{below}
 use Rattle.edf.proofs.Counted.{busy-done, done-horizon}
 use Rattle.edf.proofs.Ends.{finish-length, finish-owed, busy-owed, all-ticks}

@@ -8,6 +8,7 @@
 use Prim.Native.Nat.{ℕ, _+_}
 use mathlib.Core.Bool.{Bool, cond, _&&_, _||_}
 use mathlib.Core.List.{List, [], _∷_, map}
+use mathlib.Core.Path.{_≡_}
 use lib.Dec.{ltb, eqb}
 use lib.IntN.{ℤ, pos}
 use lib.ListN.{length, getD}
@@ -17,6 +18,7 @@ use Rattle.subjobs.specs.Reasons as reasons
 use Rattle.subjobs.specs.Sets.{Subjobs, size, job, subtask, release, execution}
 use Rattle.subjobs.specs.Judging.{judgement, ifPassed}
 use Rattle.edf.specs.declared.Totals.{Totals}
+use Rattle.edf.specs.declared.Simulated.{Simulated}
 use Rattle.edf.specs.declared.Answer.{Answer}
 use Rattle.edf.specs.declared.Answer.the-variants.{Ran, Refused}
 use Rattle.edf.specs.Runs.{sooner, owed, finish, end, busyTicks, idleTicks}
@@ -70,6 +72,19 @@ totals s ds asks n t = ifRan (answer s ds asks n t) (added (run s ds asks) t) t
 unfoldable pub finishes : Subjobs → List ℕ → List ℕ → List ℕ → Totals → List ℕ
 finishes s ds asks fs t = ifRan (answer s ds asks (length fs) t) (run s ds asks .finishes) fs
 
+-- the answer, and what the record of totals holds afterwards
+abbrev pub simulated : Subjobs → List ℕ → List ℕ → ℕ → Totals → Simulated
+simulated s ds asks n t = record { answer = answer s ds asks n t; totals = totals s ds asks n t }
+
 abbrev pub values : Answer → List ℤ
 values (Ran r) = pos 0 ∷ pos (r .end) ∷ []
 values (Refused r) = reasons.values r
+
+-- What `simulate` is held to: what it gives, and what the list of finishes holds afterwards.
+abbrev pub Simulates : Subjobs → (ds asks fs : List ℕ) → Totals → Simulated → List ℕ → Type 0
+Simulates s ds asks fs t r fs′ = (r ≡ simulated s ds asks (length fs) t) × (fs′ ≡ finishes s ds asks fs t)
+
+-- What `run` is held to: its answer, and what totals and finishes hold afterwards.
+abbrev pub Runs : Subjobs → (ds asks fs : List ℕ) → Totals → Answer → Totals → List ℕ → Type 0
+Runs s ds asks fs t r t′ fs′ =
+    (r ≡ answer s ds asks (length fs) t) × (t′ ≡ totals s ds asks (length fs) t) × (fs′ ≡ finishes s ds asks fs t)

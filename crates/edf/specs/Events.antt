@@ -13,7 +13,6 @@
 --   readOff r o n fs b  == the run whose last ticks served end at fs, with b busy ticks
 --   settled r t         == the answer to a run and the record of totals after it
 --   written r t old     == the list of finishes after it
---   simulated s ds asks n t == all that the simulator returns
 use Prim.Native.Nat.{ℕ, _-_, _≤_, _<_, min}
 use mathlib.Core.Bool.{Bool, cond}
 use mathlib.Core.List.{List, map}
@@ -71,10 +70,6 @@ settled r t =
 -- what the list of finishes holds after it, if it held old before
 abbrev pub written : Run → Totals → List ℕ → List ℕ
 written r t old = ifRan (settled r t .answer) (r .finishes) old
-
--- the answer, and what the record of totals holds afterwards
-abbrev pub simulated : Subjobs → List ℕ → List ℕ → ℕ → Totals → Simulated
-simulated s ds asks n t = record { answer = answer s ds asks n t; totals = totals s ds asks n t }
 
 -- What the parts ask of the lists: that they are of one length and have at most 128 places,
 pub record Sized (js ks rs cs ds qs : List ℕ) : Type 0 where

@@ -2,11 +2,8 @@
 //
 // The answer is that of single ticks (specs/Core.antt, specs/Runs.antt, specs/Answers.antt); the program jumps from event
 // to event (specs/Events.antt).
-ghost use mathlib.Core.Path.{_≡_};
-ghost use lib.ListN.{length};
 ghost use Rattle.subjobs.specs.Sets.{subjobs};
-ghost use Rattle.edf.specs.Answers as answers;
-ghost use Rattle.edf.specs.Events.{simulated};
+ghost use Rattle.edf.specs.Answers.{Simulates, Runs};
 
 mod events;
 mod runs;
@@ -51,7 +48,7 @@ pub fn simulate(
     finishes: &mut [u32],
     totals: Totals,
 ) -> Simulated
-    ensures { λ r. ⌜ (r ≡ simulated (subjobs (now (jobs .entry)) (now (subtasks .entry)) (now (releases .entry)) (now (executions .entry)) (now (deadlines .entry)) (now (criticals .entry))) (now (local .entry)) (now (asks .entry)) (length (now (finishes .entry))) totals) × (now (finishes .exit) ≡ answers.finishes (subjobs (now (jobs .entry)) (now (subtasks .entry)) (now (releases .entry)) (now (executions .entry)) (now (deadlines .entry)) (now (criticals .entry))) (now (local .entry)) (now (asks .entry)) (now (finishes .entry)) totals) ⌝ }
+    ensures { λ r. ⌜ Simulates (subjobs (now (jobs .entry)) (now (subtasks .entry)) (now (releases .entry)) (now (executions .entry)) (now (deadlines .entry)) (now (criticals .entry))) (now (local .entry)) (now (asks .entry)) (now (finishes .entry)) totals r (now (finishes .exit)) ⌝ }
 {
     let n = jobs.len();
     let others = (local.len() == n) & (asks.len() == n) & (finishes.len() == n);
@@ -89,7 +86,7 @@ pub fn run(
     finishes: &mut [u32],
     totals: &mut Totals,
 ) -> Answer
-    ensures { λ r. ⌜ (r ≡ simulated (subjobs (now (jobs .entry)) (now (subtasks .entry)) (now (releases .entry)) (now (executions .entry)) (now (deadlines .entry)) (now (criticals .entry))) (now (local .entry)) (now (asks .entry)) (length (now (finishes .entry))) (now (totals .entry)) .answer) × (now (totals .exit) ≡ simulated (subjobs (now (jobs .entry)) (now (subtasks .entry)) (now (releases .entry)) (now (executions .entry)) (now (deadlines .entry)) (now (criticals .entry))) (now (local .entry)) (now (asks .entry)) (length (now (finishes .entry))) (now (totals .entry)) .totals) × (now (finishes .exit) ≡ answers.finishes (subjobs (now (jobs .entry)) (now (subtasks .entry)) (now (releases .entry)) (now (executions .entry)) (now (deadlines .entry)) (now (criticals .entry))) (now (local .entry)) (now (asks .entry)) (now (finishes .entry)) (now (totals .entry))) ⌝ }
+    ensures { λ r. ⌜ Runs (subjobs (now (jobs .entry)) (now (subtasks .entry)) (now (releases .entry)) (now (executions .entry)) (now (deadlines .entry)) (now (criticals .entry))) (now (local .entry)) (now (asks .entry)) (now (finishes .entry)) (now (totals .entry)) r (now (totals .exit)) (now (finishes .exit)) ⌝ }
 {
     let simulated = simulate(
         jobs,

@@ -1,12 +1,13 @@
 -- Lists read place by place: numbers held in the order of a list of places, `map f xs`; the places of a set; one number
--- more of a copy; the first of many equal numbers.
-use Prim.Native.Nat.{ℕ, zero, suc, _+_, _<_, _≤_}
+-- more of a copy; the first of many equal numbers; a part from the middle.
+use Prim.Native.Nat.{ℕ, zero, suc, _+_, _-_, _<_, _≤_}
 use mathlib.Core.List.{List, [], _∷_, map}
 use mathlib.Core.Path.{_≡_, refl, ap, _∙_}
 use native.Mathlib.Omega.{arith}
+use native.Mathlib.Nat.{sub-zero}
 use native.Mathlib.Numerals.{add-one}
-use lib.ListN.{length, getD, take, set, replicate}
-use lib.Seq.{take-suc, take-suc-set}
+use lib.ListN.{length, getD, take, drop, set, replicate}
+use lib.Seq.{take-nil, take-suc, take-suc-set}
 use Rattle.lists.specs.Places.{from, places}
 
 pub at-map : (f : ℕ → ℕ) (xs : List ℕ) (i : ℕ) → i < length xs → getD (map f xs) i 0 ≡ f (getD xs i 0)
@@ -31,3 +32,12 @@ pub take-replicate : (n m a : ℕ) → n ≤ m → take n (replicate m a) ≡ re
 take-replicate zero m a h = refl
 take-replicate (suc n) zero a h = absurd (omega arith)
 take-replicate (suc n) (suc m) a h = ap (λ (l : List ℕ). a ∷ l) (take-replicate n m a (omega arith))
+
+-- A part from k to n of a list is the tail from k on of its first n.
+pub part-within : (l : List ℕ) (n k : ℕ) → k ≤ n → take (n - k) (drop k l) ≡ drop k (take n l)
+part-within l n zero h = rw sub-zero
+part-within [] zero (suc k) h = absurd (omega arith)
+part-within [] (suc n) (suc k) h = take-nil (suc n - suc k)
+part-within (x ∷ l) zero (suc k) h = absurd (omega arith)
+part-within (x ∷ l) (suc n) (suc k) h =
+    let z : suc n - suc k ≡ n - k = omega arith in rw z (part-within l n k (omega arith))

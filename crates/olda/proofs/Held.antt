@@ -2,16 +2,16 @@
 -- a sub-job leaves.
 use Prim.Native.Nat.{ℕ, zero, suc, _+_, _-_, _*_, _<_, _≤_, max}
 use mathlib.Core.Bool.{cond}
-use mathlib.Core.List.{List, [], _∷_}
+use mathlib.Core.List.{List, [], _∷_, map}
 use mathlib.Core.Path.{_≡_, refl, sym, ap, _∙_}
-use native.Mathlib.Nat.{add-zero}
 use native.Mathlib.Numerals.{add-one}
 use native.Mathlib.Omega.{arith}
 use borrow.Author.Tests.{lt-ltb, le-ltb}
 use lib.Dec.{ltb}
-use lib.ListN.{length, getD, take, drop, set, length-drop}
-use lib.Seq.{drop-cons, drop-length, getD-drop, getD-take, take-all}
+use lib.ListN.{length, getD, take, drop, set}
+use lib.Seq.{drop-cons, drop-length, drop-drop, drop-set-lt, getD-take, take-set-lt}
 use Rattle.lists.specs.Places.{weight, Every}
+use Rattle.lists.proofs.Mapped.{part-within}
 use Rattle.lists.proofs.Members.{every-more}
 use Rattle.olda.specs.Method.{best, base}
 use Rattle.olda.specs.Held.{completions, lessened}
@@ -45,9 +45,16 @@ weight-rest f [] k h = absurd (omega arith)
 weight-rest f (x ∷ xs) zero h = omega arith
 weight-rest f (x ∷ xs) (suc k) h = let ih = weight-rest f xs k (omega arith) in omega arith
 
--- A part from i to the end of a list is the tail from i on.
-pub part-tail : (l : List ℕ) (i : ℕ) → take (length l - i) (drop i l) ≡ drop i l
-part-tail l i = take-all (length l - i) (drop i l) (simp length-drop (omega arith))
+-- The sum of numbers held in the order of a list of places.
+weight-map : (f : ℕ → ℕ) (xs : List ℕ) → weight (λ c. c) (map f xs) ≡ weight f xs
+unfolding weight
+weight-map f [] = refl
+weight-map f (x ∷ xs) = ap (λ (w : ℕ). f x + w) (weight-map f xs)
+
+drop-map : (f : ℕ → ℕ) (xs : List ℕ) (i : ℕ) → drop i (map f xs) ≡ map f (drop i xs)
+drop-map f xs zero = refl
+drop-map f [] (suc i) = refl
+drop-map f (x ∷ xs) (suc i) = drop-map f xs i
 
 -- The first k lessened, one after the other.
 pub lessened-at : (k v : ℕ) (ns : List ℕ) → getD (lessened k v ns) k 0 ≡ getD ns k 0
@@ -102,13 +109,17 @@ module _ (r c : ℕ → ℕ) where
       (arith, e .0 .0, weight-most c (x ∷ xs) (every-more (λ y. (r y ≤ 1_000_000_000) × (c y ≤ 1_000_000)) (λ y. c y ≤ 1_000_000) (λ y q. q .1) (x ∷ xs) e))
   completions-most (x ∷ xs) e few (suc i) h = completions-most xs (e .1) (omega arith) i (omega arith)
 
-  -- The part of xs from i on is a tail, and its completion stands at i.
-  pub completions-part :
-      (xs : List ℕ) (i : ℕ)
-      → i < length xs
-      → r (getD (take (length xs - i) (drop i xs)) 0 0) + weight c (take (length xs - i) (drop i xs)) ≡ getD (completions r c xs) i 0
-  completions-part xs i h =
-      rw (part-tail xs i, getD-drop i xs 0 0, add-zero i) (sym (completions-at xs i h))
+  -- Numbers that from i to the end of xs are executions still: that part is a tail's, and its completion stands at i.
+  module _ (xs es : List ℕ) (i : ℕ) (h : i < length xs) (e : drop i (take (length xs) es) ≡ drop i (map c xs)) where
+    pub completions-part : r (getD xs i 0) + weight (λ x. x) (take (length xs - i) (drop i es)) ≡ getD (completions r c xs) i 0
+    completions-part =
+        rw (part-within es (length xs) i (omega arith), e, drop-map c xs i, weight-map c (drop i xs)) (sym (completions-at xs i h))
+
+    -- The next part still holds executions when the completion is written before it.
+    pub executions-part : (m : ℕ) → drop (i + 1) (take (length xs) (set es i m)) ≡ drop (i + 1) (map c xs)
+    executions-part m =
+        rw (take-set-lt (length xs) es i m h, drop-set-lt (i + 1) (take (length xs) es) i m (omega arith))
+        (sym (drop-drop 1 i (take (length xs) es)) ∙ ap (drop 1) e ∙ drop-drop 1 i (map c xs))
 
   -- A tail's completion holds the execution of each of its sub-jobs.
   pub completions-hold : (xs : List ℕ) (k i : ℕ) → k < length xs → i < k → c (getD xs k 0) ≤ getD (completions r c xs) i 0

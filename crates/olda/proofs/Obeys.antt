@@ -18,8 +18,8 @@ use Rattle.lists.proofs.Members.{filled, or-filled, without-in, inorder-filter,
 use Rattle.lists.proofs.Sums.{weight-in, weight-out, count-from}
 use Rattle.lists.proofs.Choice.{Order, Total, by-order, lex-order, lex-total, last-chosen}
 use Rattle.subjobs.specs.Sets.{Subjobs, size, release, execution, deadline, critical, byBound}
-use Rattle.olda.specs.Method.{inOrder, best, base, lower, Outcome, placed, stuck, steps, method}
-use Rattle.olda.specs.Rules.{Accepts, over, place, Refuses, here, later}
+use Rattle.olda.specs.Method.{inOrder, best, base, Outcome, placed, stuck, steps, method}
+use Rattle.olda.specs.Rules.{lower, Accepts, over, place, Refuses, here, later}
 use Rattle.olda.proofs.Tails.{base-nil, base-filled, base-in}
 use Rattle.lists.proofs.Rearranged.{Same, same-in}
 use Rattle.olda.proofs.ReleaseOrder.{inorder-inOrder, same-inOrder}

@@ -1,21 +1,23 @@
 -- The report of an accepted set, from its raised bounds.
 use Prim.Native.Nat.{ℕ, _+_, _<_, _≤_}
 use mathlib.Core.Option.{some}
+use mathlib.Core.List.{List}
 use mathlib.Core.Path.{_≡_, ap, sym, _∙_}
 use native.Mathlib.Omega.{arith}
 use lib.IntN.{ℤ, subℕ}
-use lib.ListN.{take, replicate}
+use lib.ListN.{length, take, replicate}
 use Rattle.lists.specs.Places.{Every, from, places}
 use Rattle.lists.specs.Order.{choose}
+use Rattle.subjobs.specs.Sets.{Subjobs, size, release, execution, deadline, critical, bound, byBound}
 use Rattle.lists.proofs.Members.{in-every, places-in}
 use Rattle.lists.proofs.Mapped.{take-replicate}
-use Rattle.subjobs.specs.Sets.{Subjobs, size, release, execution, deadline, critical, bound, byBound}
+use Rattle.subjobs.proofs.Differences.{sub-same, sub-less}
 use Rattle.olda.specs.declared.Answer.the-variants.{Placed, Nothing}
-use Rattle.olda.specs.Method.{lower, inOrder, steps, method}
+use Rattle.olda.specs.Method.{inOrder, steps, method}
+use Rattle.olda.specs.Rules.{lower}
 use Rattle.olda.specs.Answers.{report}
 use Rattle.olda.proofs.AllPlaces.{in-order-below}
 use Rattle.olda.proofs.Raised.{Raised, choose-same, raised-slack, raised-steps}
-use Rattle.subjobs.proofs.Differences.{sub-same, sub-less}
 
 places-below : (n : ℕ) → Every (λ i. i < n) (places n)
 places-below n = in-every (λ i. i < n) (places n) (places-in n)
@@ -45,16 +47,18 @@ module _ (s : Subjobs) (n : ℕ) (e : size s ≡ n) where
 
   -- The method by raised bounds, on an array of zeros that is longer than the set.
   pub method-raised :
-      (u : ℕ → ℕ)
+      (u : ℕ → ℕ) (local : List ℕ)
       → Raised n (deadline s) (critical s) u
-      → n ≤ 128
-      → steps (release s) (execution s) (lower u (λ k. 0)) u (λ k. 1_000_000_000) n (inOrder (release s) n) (take n (replicate 128 0)) ≡ method s
+      → n ≤ length local
+      → local ≡ replicate (length local) 0
+      → steps (release s) (execution s) (lower u (λ k. 0)) u (λ k. 1_000_000_000) n (inOrder (release s) n) (take n local) ≡ method s
   unfolding method
-  method-raised u r few =
+  method-raised u local r few zeros =
       sym
       (rw e
       (raised-steps n (deadline s) (critical s) u r (release s) (execution s) n (inOrder (release s) n) (replicate n 0) (in-order-below (release s) n)
-      ∙ rw (take-replicate n 128 0 few)))
+      ∙ ap (steps (release s) (execution s) (lower u (λ k. 0)) u (λ k. 1_000_000_000) n (inOrder (release s) n))
+      (sym (ap (take n) zeros ∙ take-replicate n (length local) 0 few))))
 
   pub bound-raised :
       (u : ℕ → ℕ) (p : ℕ) → Raised n (deadline s) (critical s) u → p < n → bound (deadline s) (critical s) p ≡ subℕ (u p) 1_000_000_000

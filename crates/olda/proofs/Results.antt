@@ -22,7 +22,8 @@ use Rattle.subjobs.specs.Judging.{judgement, ifPassed}
 use Rattle.subjobs.proofs.Fit.{fit}
 use Rattle.subjobs.proofs.Reported.{judged-within}
 use Rattle.olda.specs.declared.Answer.the-variants.{Refused}
-use Rattle.olda.specs.Method.{lower, Outcome, placed, stuck, method}
+use Rattle.olda.specs.Method.{Outcome, placed, stuck, method}
+use Rattle.olda.specs.Rules.{lower}
 use Rattle.olda.specs.Answers.{report, outcome, answer, written, results}
 use Rattle.olda.proofs.Rules.{Ones, refused-in}
 use Rattle.olda.proofs.Obeys.{method-placed, method-stuck}

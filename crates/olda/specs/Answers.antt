@@ -3,8 +3,10 @@
 --   answer s n     == the answer for the set s and a result list of n places
 --   values a       == document 01's number and values of an answer: 0 and the report, or the reason's
 --   results s out  == what the result list holds afterwards, if it held out before
+--   Assigns s out r out′ == answer and result list are these
 use Prim.Native.Nat.{ℕ, _+_}
 use mathlib.Core.List.{List, [], _∷_}
+use mathlib.Core.Path.{_≡_}
 use lib.Dec.{eqb}
 use lib.IntN.{ℤ, pos}
 use lib.ListN.{length, getD}
@@ -45,3 +47,7 @@ abbrev pub values : Answer → List ℤ
 values (Placed r) = pos 0 ∷ r .slack ∷ pos (r .place) ∷ []
 values Nothing = pos 0 ∷ []
 values (Refused r) = reasons.values r
+
+-- What `assign` is held to: its answer r, and what the result list out holds afterwards.
+abbrev pub Assigns : Subjobs → List ℕ → Answer → List ℕ → Type 0
+Assigns s out r out′ = (r ≡ answer s (length out)) × (out′ ≡ results s out)

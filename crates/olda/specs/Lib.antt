@@ -1,4 +1,5 @@
-pub mod Method
 pub mod Rules
+pub mod Method
 pub mod Answers
 pub mod Held
+pub mod Fitting

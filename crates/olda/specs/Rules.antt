@@ -1,7 +1,8 @@
 -- The rules of the assignment, literally: over all subsets of the remaining sub-jobs, in any order of
--- their list. `lt` is the order of the base sub-job (`lower` of Method.antt).
+-- their list. `lt` is the order of the base sub-job, `lower`.
 --
 --   Base r c xs U            == U picks the base subset of the remaining xs
+--   lower dl z i j           == the order of the base sub-job: i stands behind j when one is taken
 --   Turn r c lt xs b m       == steps 1 and 2: b is the base sub-job of xs and m the completion
 --   Accepts r c lt dl z d xs == the rules give the remaining xs the deadlines d
 --   Refuses r c lt dl z p m xs == step 3 fails at the base sub-job p with the completion m
@@ -11,7 +12,8 @@ use mathlib.Core.List.{List, []}
 use mathlib.Core.Logic.{_≢_}
 use mathlib.Core.Path.{_≡_}
 use Rattle.lists.specs.Places.{filter, without, least}
-use Rattle.lists.specs.Order.{Last}
+use Rattle.lists.specs.Order.{by, lex, Last}
+use Rattle.subjobs.specs.Sets.{byBound}
 use Rattle.subjobs.specs.Conditions.{completion}
 
 -- 1. The base subset is the subset of the remaining sub-jobs with the greatest completion. Of several, take the one
@@ -25,7 +27,11 @@ pub record Base (r c : ℕ → ℕ) (xs : List ℕ) (U : ℕ → Bool) : Type 0 
       → completion r c (filter X xs) ≡ completion r c (filter U xs)
       → least r (filter X xs) ≤ least r (filter U xs)
 
--- 2. The base sub-job is the one in it that all others of it stand behind.
+-- 2. The base sub-job is the one with the greatest upper bound. Of several, take the one latest in the list.
+abbrev pub lower : (dl z : ℕ → ℕ) → ℕ → ℕ → Bool
+lower dl z = lex (byBound dl z) (by (λ i. i))
+
+-- 2. It is the one in the base subset that all others of it stand behind.
 pub record Turn (r c : ℕ → ℕ) (lt : ℕ → ℕ → Bool) (xs : List ℕ) (b m : ℕ) : Type 0 where
   pub subset : ℕ → Bool
   pub isBase : Base r c xs subset

@@ -1,11 +1,8 @@
 // The assignment of a set that fits, that is, one that passes refusals 1 to 4.
-ghost use Prim.Native.Nat.{ℕ, _≤_, _<_};
+ghost use Prim.Native.Nat.{_≤_};
 ghost use mathlib.Core.Path.{_≡_};
-ghost use mathlib.Core.List.{List};
-ghost use lib.ListN.{length, getD, take};
-ghost use Rattle.subjobs.specs.Sets.{subjobs};
-ghost use Rattle.olda.specs.Method.{method};
-ghost use Rattle.olda.specs.Answers.{outcome, written};
+ghost use lib.ListN.{length, take, replicate};
+ghost use Rattle.olda.specs.Fitting.{Fits, Assigned};
 use crate::Answer;
 use crate::placing::Placing;
 use crate::placing::method;
@@ -26,8 +23,94 @@ fn copy(from: &[u32], to: &mut [u32])
     }
 }
 
-// Answers for whatever jobs js and subtasks ks: they have no say once no pair stands twice. The result list is written
-// when all have their deadlines, and not before.
+// The assignment, with room lent for the raised bounds, the local deadlines, the places in release order and the
+// completions of their tails; that for the deadlines holds zeros. The result list is written when all have their deadlines, and not before.
+fn assign_in(
+    releases: &[u32],
+    executions: &[u32],
+    deadlines: &[u32],
+    criticals: &[u32],
+    out: &mut [u32],
+    bounds: &mut [u32],
+    local: &mut [u32],
+    order: &mut [u32],
+    ends: &mut [u32],
+) -> Answer
+    requires { ⌜ Fits (now releases) (now executions) (now deadlines) (now criticals) × (length (now out) ≡ length (now releases)) × (length (now releases) ≤ length (now bounds)) × (length (now releases) ≤ length (now local)) × (length (now releases) ≤ length (now order)) × (length (now releases) ≤ length (now ends)) × (now local ≡ replicate (length (now local)) 0) ⌝ }
+    ensures { λ r. ⌜ Assigned (now (releases .entry)) (now (executions .entry)) (now (deadlines .entry)) (now (criticals .entry)) (now (out .entry)) r (now (out .exit)) ⌝ }
+{
+    raise(deadlines, criticals, bounds);
+    let placing = method(releases, executions, bounds, order, ends, local);
+    match placing {
+        Placing::Placed => {
+            copy(local, out);
+            report(bounds, out)
+        }
+        Placing::Stuck { place, completion } => Answer::Refused(Reason::Late {
+            place,
+            completion,
+            bound: signed(bounds[place]),
+        }),
+    }
+}
+
+// The same with the room made here, for up to 16 sub-jobs: less of it is cleared before each call.
+fn assign_few(
+    releases: &[u32],
+    executions: &[u32],
+    deadlines: &[u32],
+    criticals: &[u32],
+    out: &mut [u32],
+) -> Answer
+    requires { ⌜ Fits (now releases) (now executions) (now deadlines) (now criticals) × (length (now out) ≡ length (now releases)) × (length (now releases) ≤ 16) ⌝ }
+    ensures { λ r. ⌜ Assigned (now (releases .entry)) (now (executions .entry)) (now (deadlines .entry)) (now (criticals .entry)) (now (out .entry)) r (now (out .exit)) ⌝ }
+{
+    let mut bounds = [0u32; 16];
+    let mut local = [0u32; 16];
+    let mut order = [0u32; 16];
+    let mut ends = [0u32; 16];
+    assign_in(
+        releases,
+        executions,
+        deadlines,
+        criticals,
+        out,
+        &mut bounds,
+        &mut local,
+        &mut order,
+        &mut ends,
+    )
+}
+
+// The same for up to 128.
+fn assign_many(
+    releases: &[u32],
+    executions: &[u32],
+    deadlines: &[u32],
+    criticals: &[u32],
+    out: &mut [u32],
+) -> Answer
+    requires { ⌜ Fits (now releases) (now executions) (now deadlines) (now criticals) × (length (now out) ≡ length (now releases)) × (length (now releases) ≤ 128) ⌝ }
+    ensures { λ r. ⌜ Assigned (now (releases .entry)) (now (executions .entry)) (now (deadlines .entry)) (now (criticals .entry)) (now (out .entry)) r (now (out .exit)) ⌝ }
+{
+    let mut bounds = [0u32; 128];
+    let mut local = [0u32; 128];
+    let mut order = [0u32; 128];
+    let mut ends = [0u32; 128];
+    assign_in(
+        releases,
+        executions,
+        deadlines,
+        criticals,
+        out,
+        &mut bounds,
+        &mut local,
+        &mut order,
+        &mut ends,
+    )
+}
+
+// The assignment of a set that fits.
 pub(crate) fn assign_fit(
     releases: &[u32],
     executions: &[u32],
@@ -35,22 +118,12 @@ pub(crate) fn assign_fit(
     criticals: &[u32],
     out: &mut [u32],
 ) -> Answer
-    requires { ⌜ (length (now releases) ≤ 128) × (length (now executions) ≡ length (now releases)) × (length (now deadlines) ≡ length (now releases)) × (length (now criticals) ≡ length (now releases)) × (length (now out) ≡ length (now releases)) × ((i : ℕ) → i < length (now releases) → (getD (now releases) i 0 ≤ 1_000_000_000) × (1 ≤ getD (now executions) i 0) × (getD (now executions) i 0 ≤ 1_000_000) × (getD (now deadlines) i 0 ≤ 2_000_000_000) × (getD (now criticals) i 0 ≤ 1_000_000_000)) ⌝ }
-    ensures { λ r. ⌜ ((js ks : List ℕ) → length js ≡ length (now (releases .entry)) → (r ≡ outcome (subjobs js ks (now (releases .entry)) (now (executions .entry)) (now (deadlines .entry)) (now (criticals .entry))) (method (subjobs js ks (now (releases .entry)) (now (executions .entry)) (now (deadlines .entry)) (now (criticals .entry))))) × (now (out .exit) ≡ written (method (subjobs js ks (now (releases .entry)) (now (executions .entry)) (now (deadlines .entry)) (now (criticals .entry)))) (now (out .entry)))) ⌝ }
+    requires { ⌜ Fits (now releases) (now executions) (now deadlines) (now criticals) × (length (now out) ≡ length (now releases)) ⌝ }
+    ensures { λ r. ⌜ Assigned (now (releases .entry)) (now (executions .entry)) (now (deadlines .entry)) (now (criticals .entry)) (now (out .entry)) r (now (out .exit)) ⌝ }
 {
-    let mut bounds = [0u32; 128];
-    raise(deadlines, criticals, &mut bounds);
-    let mut local = [0u32; 128];
-    let placing = method(releases, executions, &bounds, &mut local);
-    match placing {
-        Placing::Placed => {
-            copy(&local, out);
-            report(&bounds, out)
-        }
-        Placing::Stuck { place, completion } => Answer::Refused(Reason::Late {
-            place,
-            completion,
-            bound: signed(bounds[place]),
-        }),
+    if releases.len() <= 16 {
+        assign_few(releases, executions, deadlines, criticals, out)
+    } else {
+        assign_many(releases, executions, deadlines, criticals, out)
     }
 }

@@ -2,7 +2,7 @@
 ghost use mathlib.Core.Path.{_≡_};
 ghost use lib.ListN.{length};
 ghost use Rattle.subjobs.specs.Sets.{subjobs};
-ghost use Rattle.olda.specs.Answers.{answer, results};
+ghost use Rattle.olda.specs.Answers.{Assigns};
 use subjobs::Judgement;
 use subjobs::Reason;
 
@@ -37,7 +37,7 @@ pub fn assign(
     criticals: &[u32],
     out: &mut [u32],
 ) -> Answer
-    ensures { λ r. ⌜ (r ≡ answer (subjobs (now (jobs .entry)) (now (subtasks .entry)) (now (releases .entry)) (now (executions .entry)) (now (deadlines .entry)) (now (criticals .entry))) (length (now (out .entry)))) × (now (out .exit) ≡ results (subjobs (now (jobs .entry)) (now (subtasks .entry)) (now (releases .entry)) (now (executions .entry)) (now (deadlines .entry)) (now (criticals .entry))) (now (out .entry))) ⌝ }
+    ensures { λ r. ⌜ Assigns (subjobs (now (jobs .entry)) (now (subtasks .entry)) (now (releases .entry)) (now (executions .entry)) (now (deadlines .entry)) (now (criticals .entry))) (now (out .entry)) r (now (out .exit)) ⌝ }
 {
     let others = out.len() == jobs.len();
     let judgement = subjobs::judge(

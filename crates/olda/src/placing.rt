@@ -4,7 +4,8 @@ ghost use mathlib.Core.Path.{_≡_};
 ghost use mathlib.Core.List.{_++_};
 ghost use lib.ListN.{length, getD, take, drop};
 ghost use Rattle.lists.specs.Places.{Every, Nodup};
-ghost use Rattle.olda.specs.Method.{Outcome, placed, stuck, lower, steps, inOrder};
+ghost use Rattle.olda.specs.Method.{Outcome, placed, stuck, steps, inOrder};
+ghost use Rattle.olda.specs.Rules.{lower};
 ghost use Rattle.olda.specs.Held.{lessened};
 use crate::choosing::base_job;
 use crate::choosing::index;
@@ -87,13 +88,13 @@ pub(crate) fn method(
     releases: &[u32],
     executions: &[u32],
     bounds: &[u32],
+    order: &mut [u32],
+    ends: &mut [u32],
     local: &mut [u32],
 ) -> Placing
-    requires { ⌜ (length (now releases) ≤ 128) × (length (now executions) ≡ length (now releases)) × (length (now releases) ≤ length (now bounds)) × (length (now releases) ≤ length (now local)) × ((i : ℕ) → i < length (now releases) → (getD (now releases) i 0 ≤ 1_000_000_000) × (1 ≤ getD (now executions) i 0) × (getD (now executions) i 0 ≤ 1_000_000)) ⌝ }
+    requires { ⌜ (length (now releases) ≤ 128) × (length (now executions) ≡ length (now releases)) × (length (now releases) ≤ length (now bounds)) × (length (now releases) ≤ length (now order)) × (length (now releases) ≤ length (now ends)) × (length (now releases) ≤ length (now local)) × ((i : ℕ) → i < length (now releases) → (getD (now releases) i 0 ≤ 1_000_000_000) × (1 ≤ getD (now executions) i 0) × (getD (now executions) i 0 ≤ 1_000_000)) ⌝ }
     ensures { λ o. ⌜ ((w : Outcome) → steps (λ i. getD (now (releases .entry)) i 0) (λ i. getD (now (executions .entry)) i 0) (lower (λ i. getD (now (bounds .entry)) i 0) (λ i. 0)) (λ i. getD (now (bounds .entry)) i 0) (λ i. 1_000_000_000) (length (now (releases .entry))) (inOrder (λ i. getD (now (releases .entry)) i 0) (length (now (releases .entry)))) (take (length (now (releases .entry))) (now (local .entry))) ≡ w → (o ≡ Placing.Placed → w ≡ placed (take (length (now (releases .entry))) (now (local .exit)))) × ((p m : ℕ) → o ≡ Placing.Stuck p m → (p < length (now (releases .entry))) × (w ≡ stuck p m))) ⌝ }
 {
-    let mut order = [0u32; 128];
-    let mut ends = [0u32; 128];
-    in_order(releases, &mut order);
-    place_all(releases, executions, bounds, &mut order, &mut ends, local)
+    in_order(releases, order);
+    place_all(releases, executions, bounds, order, ends, local)
 }

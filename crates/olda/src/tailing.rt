@@ -1,36 +1,52 @@
-// Tails: the sub-jobs released at or after one release, as parts of the places in release order; their completions, and
-// the search for the greatest.
+// Tails: the sub-jobs released at or after one release, as parts of the executions in release order; their completions,
+// and the search for the greatest.
 ghost use Prim.Native.Nat.{ℕ, _+_, _<_, _≤_};
 ghost use mathlib.Core.Path.{_≡_};
-ghost use mathlib.Core.List.{List};
+ghost use mathlib.Core.List.{List, map};
 ghost use lib.ListN.{length, getD, take, drop};
 ghost use Rattle.lists.specs.Places.{weight, Every};
 ghost use Rattle.olda.specs.Method.{best, base};
 ghost use Rattle.olda.specs.Held.{completions};
 use crate::choosing::index;
 
-// The completion of one tail: the release at which it starts plus the sum of its executions.
-fn completion(tail: &[u32], releases: &[u32], executions: &[u32]) -> u32
-    requires { ⌜ (0 < length (now tail)) × (length (now executions) ≡ length (now releases)) × Every (λ p. p < length (now releases)) (now tail) × (getD (now releases) (getD (now tail) 0 0) 0 + weight (λ i. getD (now executions) i 0) (now tail) < 4294967296) ⌝ }
-    ensures { λ m. ⌜ m ≡ getD (now (releases .entry)) (getD (now (tail .entry)) 0 0) 0 + weight (λ i. getD (now (executions .entry)) i 0) (now (tail .entry)) ⌝ }
+// Writes the executions in release order.
+fn executions_in_order(order: &[u32], executions: &[u32], ends: &mut [u32])
+    requires { ⌜ (length (now order) ≤ length (now ends)) × Every (λ p. p < length (now executions)) (now order) ⌝ }
+    ensures { λ r. ⌜ take (length (now (order .entry))) (now (ends .exit)) ≡ map (λ i. getD (now (executions .entry)) i 0) (now (order .entry)) ⌝ }
 {
-    let mut m = releases[index(tail[0])];
     let mut i = 0;
-    while i < tail.len() {
-        m += executions[index(tail[i])];
+    while i < order.len() {
+        ends[i] = executions[index(order[i])];
+        i += 1;
+    }
+}
+
+// The completion of one tail: the release at which it starts plus the sum of its executions.
+fn completion(release: u32, executions: &[u32]) -> u32
+    requires { ⌜ release + weight (λ c. c) (now executions) < 4294967296 ⌝ }
+    ensures { λ m. ⌜ m ≡ release + weight (λ c. c) (now (executions .entry)) ⌝ }
+{
+    let mut m = release;
+    let mut i = 0;
+    while i < executions.len() {
+        m += executions[i];
         i += 1;
     }
     m
 }
 
-// The completion of each tail, where it starts. Each is added afresh, once; callers know them by `completions` alone.
+// The completion of each tail, where it starts. First the executions are written there in release order; what stands
+// before i are then completions already, and from i on executions still, the tail that is added next. Each is added
+// afresh, once; callers know them by `completions` alone.
 pub(crate) fn completions(order: &[u32], releases: &[u32], executions: &[u32], ends: &mut [u32])
     requires { ⌜ (length (now order) ≤ 128) × (length (now order) ≤ length (now ends)) × (length (now executions) ≡ length (now releases)) × Every (λ p. p < length (now releases)) (now order) × ((i : ℕ) → i < length (now releases) → (getD (now releases) i 0 ≤ 1_000_000_000) × (getD (now executions) i 0 ≤ 1_000_000)) ⌝ }
     ensures { λ r. ⌜ take (length (now (order .entry))) (now (ends .exit)) ≡ completions (λ i. getD (now (releases .entry)) i 0) (λ i. getD (now (executions .entry)) i 0) (now (order .entry)) ⌝ }
 {
+    executions_in_order(order, executions, ends);
+    let n = order.len();
     let mut i = 0;
-    while i < order.len() {
-        ends[i] = completion(&order[i..], releases, executions);
+    while i < n {
+        ends[i] = completion(releases[index(order[i])], &ends[i..n]);
         i += 1;
     }
 }

@@ -22,7 +22,8 @@ use Rattle.subjobs.specs.Sets.{Subjobs, size, release, execution, deadline, cri
 use Rattle.subjobs.specs.Judging.{judgement}
 use Rattle.olda.specs.declared.Answer.the-variants.{Placed, Nothing, Refused}
 use Rattle.olda.specs.declared.Report.{Report}
-use Rattle.olda.specs.Method.{lower, Outcome, placed, stuck, method}
+use Rattle.olda.specs.Method.{Outcome, placed, stuck, method}
+use Rattle.olda.specs.Rules.{lower}
 use Rattle.olda.specs.Answers.{answer, results, report}
 use Rattle.olda.proofs.Tails.{attained, base-threshold}
 use Rattle.olda.proofs.ReleaseOrder.{inorder-inOrder, nodup-inOrder, inOrder-below, below-inOrder}

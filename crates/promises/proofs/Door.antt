@@ -5,11 +5,14 @@ use mathlib.Core.List.{List}
 use mathlib.Core.Logic.{_≢_, _⊎_, inl, inr, _↔_}
 use mathlib.Core.Path.{_≡_, refl, sym, ap, _∙_}
 use native.Mathlib.Omega.{arith}
-use lib.ListN.{length, replicate, length-replicate, drop-of-length-le}
+use lib.Dec.{eqb}
+use lib.ListN.{length, getD, replicate, length-replicate, drop-of-length-le}
 use Rattle.lists.proofs.Cases.{split, test, clash}
 use Rattle.subjobs.specs.declared.Reason.{Reason}
 use Rattle.subjobs.specs.declared.Reason.the-variants.{Lengths}
 use Rattle.subjobs.specs.Reasons.{placeOf}
+use Rattle.subjobs.specs.Sets.{Subjobs, size}
+use Rattle.subjobs.proofs.Fit.{fit}
 use Rattle.olda.specs.declared.Answer.{Answer}
 use Rattle.olda.specs.declared.Answer.the-variants.{Placed, Nothing, Refused}
 use Rattle.olda.specs.Answers.{answer, results}
@@ -20,11 +23,12 @@ use Rattle.checker.specs.Answers as checker
 use Rattle.checker.proofs.Reported as reported
 use Rattle.charoktan.specs.Records.{count, records, encoded, words, fitting}
 use Rattle.charoktan.specs.Answers.{code, assigned, assignedBytes, checked}
-use Rattle.charoktan.proofs.Coding.{length-encoded, number-range}
+use Rattle.charoktan.proofs.Coding.{length-encoded, words-encoded, number-range}
 use Rattle.charoktan.proofs.Door.{fit-length, size-records, unfit, answered, unfit-check, answered-check}
 use Rattle.promises.specs.Assignment.{accepted}
-use Rattle.promises.specs.Door.{Tells, RefusalsTold, ZeroIsAccepted}
-use Rattle.promises.proofs.Assignment.{accepted-passed, nothing-is-empty}
+use Rattle.promises.specs.Door.{Tells, RefusalsTold, ZeroIsAccepted, DoorAgrees}
+use Rattle.promises.proofs.Assignment.{accepted-passed, nothing-is-empty, deadlines-meet-six-and-seven}
+use Rattle.promises.proofs.Demand3.{checker-agrees}
 
 -- A refusal's number is below 65,536, so its code holds both parts.
 code-tells : (r : Reason) (returned : ℕ) → returned ≡ code r → placeOf r < 128 → Tells returned r
@@ -133,3 +137,31 @@ module _ (bs ds : List ℕ) where
 
 pub zero-is-accepted : ZeroIsAccepted
 zero-is-accepted bs ds = (assign-accepts bs ds, check-accepts bs ds)
+
+-- The deadlines of an accepted set are below 2^32: none is above the end-to-end deadline.
+deadlines-small :
+    (s : Subjobs) (out : List ℕ)
+    → accepted (answer s (length out)) ≡ true
+    → (i : ℕ)
+    → i < size s
+    → getD (results s out) i 0 < 4_294_967_296
+deadlines-small s out a i h =
+    omega (
+      arith,
+      deadlines-meet-six-and-seven s out a .0 i h .1,
+      fit s (eqb (length out) (size s)) (accepted-passed s (length out) a) .ranges i h .deadline,
+    )
+
+pub door-agrees : DoorAgrees
+door-agrees bs out z =
+    let t = taken bs out z in
+    let zeros : List ℕ = replicate (count bs) 0 in
+    let n : length zeros ≡ count bs = length-replicate {A = ℕ} (count bs) 0 in
+    let a : accepted (answer (records bs) (length zeros)) ≡ true = rw n (t .0 .1) in
+    let l : length (results (records bs) zeros) ≡ count bs = results-length (records bs) zeros ∙ n in
+    let back : words (written bs) (count bs) ≡ results (records bs) zeros =
+    words-encoded (results (records bs) zeros) (count bs) l
+    (λ i h. deadlines-small (records bs) zeros a i (omega (arith, size-records bs)))
+    in
+    let same : length (written bs) ≡ length out = omega (arith, length-written bs, fit-length bs (length out) (t .0 .0)) in
+    rw (t .2) (check-accepts bs (written bs) .1 (rw same (t .0 .0), rw back (checker-agrees (records bs) zeros a)))

@@ -17,10 +17,10 @@ use Rattle.subjobs.specs.declared.Judgement.the-variants.{Passed}
 use Rattle.subjobs.specs.Sets.{Subjobs, size, job, subtask, release, execution, deadline, critical}
 use Rattle.subjobs.specs.Judging.{judgement}
 use Rattle.subjobs.proofs.Fit.{fit}
-use Rattle.olda.specs.Method.{inOrder, lower, placed, method}
+use Rattle.olda.specs.Method.{inOrder, placed, method}
 use Rattle.olda.proofs.Tails.{base-in}
 use Rattle.lists.proofs.Rearranged.{Same, same-sym, same-in}
-use Rattle.olda.specs.Rules.{Accepts, over, place}
+use Rattle.olda.specs.Rules.{lower, Accepts, over, place}
 use Rattle.olda.proofs.ReleaseOrder.{inorder-inOrder, nodup-inOrder, same-inOrder, inOrder-below, below-inOrder}
 use Rattle.olda.proofs.Rules.{Ones, ones-without, turn-step, same-accepts}
 use Rattle.olda.proofs.Obeys.{lower-order, method-placed}

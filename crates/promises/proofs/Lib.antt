@@ -1,6 +1,7 @@
 pub mod Table
 pub mod Assignment
 pub mod Core
+pub mod Judging
 pub mod Runs
 pub mod Peel
 pub mod Exact

@@ -2,38 +2,35 @@
 use Prim.Native.Nat.{ℕ}
 use mathlib.Core.List.{List}
 use mathlib.Core.Path.{_≡_, refl, sym, _∙_, ap}
+use mathlib.Core.Bool.{cond, _&&_}
 use native.Mathlib.Omega.{arith}
+use borrow.Author.Tests.{eqb-true}
 use lib.Dec.{eqb}
 use lib.ListN.{length, getD}
-use Rattle.lists.proofs.Cases.{both}
 use Rattle.subjobs.specs.declared.Reason.{Reason}
 use Rattle.subjobs.specs.declared.Judgement.{Judgement}
-use Rattle.subjobs.specs.declared.Judgement.the-variants as judged
 use Rattle.subjobs.specs.Sets.{Subjobs, size, release, execution, job, subtask}
 use Rattle.subjobs.specs.Judging.{judgement, ifPassed}
 use Rattle.olda.specs.declared.Answer.the-variants.{Refused, Placed}
 use Rattle.olda.specs.Method.{Outcome, placed, stuck, method}
+use Rattle.edf.specs.Runs.{owed, sooner}
+use Rattle.edf.specs.declared.Answer.the-variants.{Ran}
+use Rattle.edf.specs.declared.Totals.{Totals}
+use Rattle.lists.proofs.Cases.{both}
+use Rattle.olda.proofs.Results.{never-refused, results-length}
+use Rattle.subjobs.proofs.Fit.{fit}
+use Rattle.edf.proofs.Finishes.{run-length}
+use Rattle.promises.specs.Outcomes.{RefusedKeeps, WritesAll, OneOutcome}
+use Rattle.promises.specs.Assignment.{accepted}
+use Rattle.promises.proofs.Assignment.{accepted-placed}
+use Rattle.promises.proofs.Door.{door-keeps, door-writes-all}
+use Rattle.subjobs.specs.declared.Judgement.the-variants as judged
 use Rattle.olda.specs.Answers as olda
 use Rattle.olda.specs.declared.Report as olda-report
 use Rattle.edf.specs.declared.Report as edf-report
 use Rattle.edf.specs.declared.Answer.the-variants as running
 use Rattle.subjobs.specs.declared.Reason.the-variants as reason
 use Rattle.edf.specs.Answers as edf
-use Rattle.checker.specs.Answers as checker
-use Rattle.table.specs.Answers as table
-use Rattle.charoktan.specs.Answers as door
-use Rattle.promises.specs.Outcomes.{RefusedKeeps, WritesAll, One, OneOutcome}
-use Rattle.olda.proofs.Results.{never-refused, results-length}
-use borrow.Author.Tests.{eqb-true}
-use mathlib.Core.Bool.{cond, _&&_}
-use Rattle.subjobs.proofs.Fit.{fit}
-use Rattle.edf.proofs.Finishes.{run-length}
-use Rattle.edf.specs.Runs.{owed, sooner}
-use Rattle.edf.specs.declared.Answer.the-variants.{Ran}
-use Rattle.edf.specs.declared.Totals.{Totals}
-use Rattle.promises.proofs.Assignment.{accepted-placed}
-use Rattle.promises.proofs.Door.{door-keeps, door-writes-all}
-use Rattle.promises.specs.Assignment.{accepted}
 
 placing-keeps :
     (s : Subjobs) (j : Judgement) (o : Outcome) (out : List ℕ) (r : Reason)
@@ -96,16 +93,17 @@ writes-all = (
 )
 
 -- The one law, for each entry.
-one : {A : Type 0} (stated : A) → One A stated
-one stated a b p q = p ∙ sym q
+one : {A : Type 0} {stated a b : A} → a ≡ stated → b ≡ stated → a ≡ b
+one p q = p ∙ sym q
 
 pub one-outcome : OneOutcome
 one-outcome = (
-  λ s others. one (judgement s others),
-  λ s out. (one (olda.answer s (length out)), one (olda.results s out)),
-  λ s ds asks fs t. (one (edf.answer s ds asks (length fs) t), one (edf.totals s ds asks (length fs) t), one (edf.finishes s ds asks fs t)),
-  λ s ds. one (checker.answer s ds),
-  λ text out. (one (table.written text (length out)), one (table.outcome text out)),
-  λ bs out. (one (door.assigned bs (length out)), one (door.assignedBytes bs out)),
-  λ bs ds. one (door.checked bs ds),
+  λ s others r q p u. one p u,
+  λ s out new other r q p u. (one (p .0) (u .0), one (p .1) (u .1)),
+  λ s ds asks fs new other t r q p u. (one (p .0) (u .0), one (p .1) (u .1)),
+  λ s ds asks fs new other t u v r q p w. (one (p .0) (w .0), one (p .1) (w .1), one (p .2) (w .2)),
+  λ s ds r q p u. one p u,
+  λ text out new other r q p u. (one (p .0) (u .0), one (p .1) (u .1)),
+  λ bs out new other r q p u. (one (p .0) (u .0), one (p .1) (u .1)),
+  λ bs ds r q p u. one p u,
 )

@@ -13,6 +13,6 @@ use Rattle.checker.specs.Answers as checker
 use Rattle.promises.specs.Table.{Holds, table}
 
 pub table-holds : Holds table
-unfolding from filter weight least greatest ahead choose someFrom refusalFrom judgement insert inOrder best base steps method olda.report olda.answer olda.results start after horizon finish end busyTicks idleTicks edf.runOf checker.answer
+unfolding from filter weight least greatest ahead choose someFrom refusalFrom judgement insert inOrder best base steps method olda.report olda.answer olda.results start after horizon finish end busyTicks idleTicks edf.runOf edf.answer edf.finishes edf.totals checker.answer
 table-holds =
-    ((refl, refl), ((refl, refl), ((refl, refl), ((refl, refl), ((refl, refl), ((refl, refl), ((refl, refl), ((refl, refl), ((refl, refl), ((refl, refl), (refl, (refl, (refl, (refl, tt))))))))))))))
+    ((refl, refl), ((refl, refl), ((refl, refl), ((refl, refl), ((refl, refl), ((refl, refl), ((refl, refl), ((refl, refl), ((refl, refl), ((refl, refl), ((refl, refl, refl), (refl, (refl, (refl, tt))))))))))))))

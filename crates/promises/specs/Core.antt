@@ -8,7 +8,7 @@
 --   served s ds asks t i == the ticks that the core has served to place i by moment t
 --   finish s ds asks i   == the finish moment of place i
 --   due s asks i         == the smaller of its ask and its execution
-use Prim.Native.Nat.{ℕ, _+_, _≤_, _<_}
+use Prim.Native.Nat.{ℕ, _≤_, _<_}
 use mathlib.Core.Bool.{true}
 use mathlib.Core.List.{List}
 use mathlib.Core.Logic.{_↔_}
@@ -19,7 +19,7 @@ use Rattle.subjobs.specs.declared.Judgement.the-variants.{Passed}
 use Rattle.subjobs.specs.declared.Reason.the-variants.{Unmet, Missed}
 use Rattle.subjobs.specs.Sets.{Subjobs, size, job, subtask, release, execution, deadline, critical}
 use Rattle.subjobs.specs.Judging.{judgement}
-use Rattle.subjobs.specs.Conditions.{Six, Seven}
+use Rattle.subjobs.specs.Conditions.{SixAt, Six, Seven}
 use Rattle.edf.specs.Core.{after}
 use Rattle.edf.specs.Runs.{sooner, owed}
 use Rattle.edf.specs.Answers as edf
@@ -31,7 +31,7 @@ Passes s = judgement s true ≡ Passed
 
 -- (6) at one place
 abbrev pub Meets : Subjobs → List ℕ → ℕ → Type 0
-Meets s ds i = (release s i + execution s i ≤ getD ds i 0) × (getD ds i 0 + critical s i ≤ deadline s i)
+Meets s ds = SixAt (release s) (execution s) (deadline s) (critical s) (λ i. getD ds i 0)
 
 abbrev pub MeetsSix : Subjobs → List ℕ → Type 0
 MeetsSix s ds = Six (release s) (execution s) (deadline s) (critical s) (λ i. getD ds i 0) (size s)

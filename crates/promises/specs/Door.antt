@@ -3,6 +3,7 @@
 --   Tells returned r == the returned number holds the refusal r: its number in the lower 16 bits, its place above them
 --   RefusalsTold     == every refusal of either entry is told so
 --   ZeroIsAccepted   == 0 is returned exactly if the lengths fit and the entry accepts
+--   DoorAgrees       == the door's checker accepts what the door's assignment wrote
 use Prim.Native.Nat.{ℕ, _/_, _%_, _<_}
 use mathlib.Core.Bool.{true, false}
 use mathlib.Core.List.{List}
@@ -17,7 +18,7 @@ use Rattle.olda.specs.Answers as olda
 use Rattle.checker.specs.declared.Answer.the-variants as checking
 use Rattle.checker.specs.Answers as checker
 use Rattle.charoktan.specs.Records.{count, records, words, fitting}
-use Rattle.charoktan.specs.Answers.{assigned, checked}
+use Rattle.charoktan.specs.Answers.{assigned, assignedBytes, checked}
 use Rattle.promises.specs.Assignment.{accepted}
 
 -- Every place that is told is one of 128.
@@ -42,3 +43,7 @@ ZeroIsAccepted =
     ↔ ((fitting bs (length ds) ≡ true) × (accepted (olda.answer (records bs) (count bs)) ≡ true)))
     × ((checked bs ds ≡ 0)
     ↔ ((fitting bs (length ds) ≡ true) × (checker.answer (records bs) (words ds (count bs)) ≡ checking.Accepted)))
+
+-- The bytes that an accepted assignment wrote, handed back as proposed deadlines, are accepted.
+abbrev pub DoorAgrees : Type 0
+DoorAgrees = (bs out : List ℕ) → assigned bs (length out) ≡ 0 → checked bs (assignedBytes bs out) ≡ 0

@@ -1,6 +1,7 @@
 pub mod Table
 pub mod Assignment
 pub mod Core
+pub mod Judging
 pub mod Runs
 pub mod Demand3
 pub mod Text

@@ -1,5 +1,5 @@
--- What holds of every public entry, the engine's door included: a refused call changes nothing, an accepted one writes
--- the whole list, and its statement allows one outcome only.
+-- What holds of every public entry, the engine's door included: its statement allows one outcome only; and of those that
+-- write a result list, that a refused call changes nothing and an accepted one writes the whole list.
 --
 --   RefusedKeeps  == after a refusal every lent list and the totals hold what they held
 --   WritesAll     == after acceptance every place of the result list is written, whatever it held
@@ -8,12 +8,15 @@ use Prim.Native.Nat.{ℕ}
 use mathlib.Core.List.{List}
 use mathlib.Core.Logic.{_≢_}
 use mathlib.Core.Path.{_≡_}
+use mathlib.Core.Bool.{Bool}
 use lib.ListN.{length}
 use Rattle.subjobs.specs.declared.Reason.{Reason}
 use Rattle.subjobs.specs.declared.Judgement.{Judgement}
-use Rattle.subjobs.specs.Judging.{judgement}
-use mathlib.Core.Bool.{Bool}
+use Rattle.subjobs.specs.Judging.{Judges}
 use Rattle.subjobs.specs.Sets.{Subjobs}
+use Rattle.edf.specs.declared.Totals.{Totals}
+use Rattle.edf.specs.declared.Simulated.{Simulated}
+use Rattle.table.specs.declared.Written.{Written}
 use Rattle.olda.specs.declared.Answer as placing
 use Rattle.olda.specs.declared.Answer.the-variants as placed
 use Rattle.olda.specs.declared.Report as olda-report
@@ -21,11 +24,9 @@ use Rattle.olda.specs.Answers as olda
 use Rattle.edf.specs.declared.Answer as running
 use Rattle.edf.specs.declared.Answer.the-variants as ran
 use Rattle.edf.specs.declared.Report as edf-report
-use Rattle.edf.specs.declared.Totals.{Totals}
 use Rattle.edf.specs.Answers as edf
 use Rattle.checker.specs.declared.Answer as checking
 use Rattle.checker.specs.Answers as checker
-use Rattle.table.specs.declared.Written.{Written}
 use Rattle.table.specs.Answers as table
 use Rattle.charoktan.specs.Answers as door
 
@@ -55,21 +56,30 @@ WritesAll =
     → (door.assignedBytes bs out ≡ door.assignedBytes bs old)
     × (length (door.assignedBytes bs out) ≡ length out))
 
--- What is stated to equal one thing allows one thing only.
-abbrev pub One : (A : Type 0) → A → Type 0
-One A stated = (one other : A) → one ≡ stated → other ≡ stated → one ≡ other
-
--- Each contract says of the answer, and of each lent list and record, what it equals: two outcomes of a call are equal.
+-- Two outcomes of a call that its contract allows are equal: the answer, each lent list and the lent record. The relations
+-- are the contracts' own words.
 abbrev pub OneOutcome : Type 0
 OneOutcome =
-    ((s : Subjobs) (others : Bool) → One Judgement (judgement s others))
-    × ((s : Subjobs) (out : List ℕ) → One placing.Answer (olda.answer s (length out)) × One (List ℕ) (olda.results s out))
-    × ((s : Subjobs) (ds asks fs : List ℕ) (t : Totals)
-    → One running.Answer (edf.answer s ds asks (length fs) t)
-    × One Totals (edf.totals s ds asks (length fs) t)
-    × One (List ℕ) (edf.finishes s ds asks fs t))
-    × ((s : Subjobs) (ds : List ℕ) → One checking.Answer (checker.answer s ds))
-    × ((text out : List ℕ) → One Written (table.written text (length out)) × One (List ℕ) (table.outcome text out))
-    × ((bs out : List ℕ)
-    → One ℕ (door.assigned bs (length out)) × One (List ℕ) (door.assignedBytes bs out))
-    × ((bs ds : List ℕ) → One ℕ (door.checked bs ds))
+    ((s : Subjobs) (others : Bool) (r q : Judgement) → Judges s others r → Judges s others q → r ≡ q)
+    × ((s : Subjobs) (out new other : List ℕ) (r q : placing.Answer)
+    → olda.Assigns s out r new
+    → olda.Assigns s out q other
+    → (r ≡ q) × (new ≡ other))
+    × ((s : Subjobs) (ds asks fs new other : List ℕ) (t : Totals) (r q : Simulated)
+    → edf.Simulates s ds asks fs t r new
+    → edf.Simulates s ds asks fs t q other
+    → (r ≡ q) × (new ≡ other))
+    × ((s : Subjobs) (ds asks fs new other : List ℕ) (t u v : Totals) (r q : running.Answer)
+    → edf.Runs s ds asks fs t r u new
+    → edf.Runs s ds asks fs t q v other
+    → (r ≡ q) × (u ≡ v) × (new ≡ other))
+    × ((s : Subjobs) (ds : List ℕ) (r q : checking.Answer) → checker.Checks s ds r → checker.Checks s ds q → r ≡ q)
+    × ((text out new other : List ℕ) (r q : Written)
+    → table.Tables text out r new
+    → table.Tables text out q other
+    → (r ≡ q) × (new ≡ other))
+    × ((bs out new other : List ℕ) (r q : ℕ)
+    → door.AssignsBytes bs out r new
+    → door.AssignsBytes bs out q other
+    → (r ≡ q) × (new ≡ other))
+    × ((bs ds : List ℕ) (r q : ℕ) → door.ChecksBytes bs ds r → door.ChecksBytes bs ds q → r ≡ q)

@@ -2,6 +2,7 @@
 --
 --   turn s ds asks t  == who is served in tick t
 --   FinishIsLastTick  == a finish is the end of the last tick served
+--   ServedByFinish    == what is owed has been served at the finish, and not before
 --   OwedNothing       == one that is owed nothing finishes at its release
 --   BusyIsOwed        == busy is the sum of what is owed
 --   TicksAreTheEnd    == busy plus idle is the end
@@ -20,7 +21,7 @@ use Rattle.edf.specs.declared.Totals.{Totals}
 use Rattle.edf.specs.Core.{pick, after}
 use Rattle.edf.specs.Runs.{sooner}
 use Rattle.edf.specs.Answers.{run, answer, totals}
-use Rattle.promises.specs.Core.{Passes, due, finish}
+use Rattle.promises.specs.Core.{Passes, due, served, finish}
 
 abbrev pub turn : Subjobs → List ℕ → List ℕ → ℕ → Option ℕ
 turn s ds asks t =
@@ -40,6 +41,16 @@ FinishIsLastTick =
     × (suc k ≡ finish s ds asks i)
     × (turn s ds asks k ≡ some i)
     × ((t : ℕ) → finish s ds asks i ≤ t → turn s ds asks t ≢ some i)
+
+-- At its finish a sub-job has been served exactly what it is owed; and one that is owed something, at no earlier moment.
+abbrev pub ServedByFinish : Type 0
+ServedByFinish =
+    (s : Subjobs) (ds asks : List ℕ)
+    → Passes s
+    → (i : ℕ)
+    → i < size s
+    → (served s ds asks (finish s ds asks i) i ≡ due s asks i)
+    × (0 < due s asks i → (t : ℕ) → t < finish s ds asks i → served s ds asks t i < due s asks i)
 
 -- The finish of one that is owed nothing is its release.
 abbrev pub OwedNothing : Type 0

@@ -36,6 +36,6 @@ OneLineEach =
     (edf.run s (olda.results s (replicate (size s) 0)) (s .executions) .finishes))
     (places (size s))
 
--- The longest answer is a header of 35 bytes and 128 lines of 56.
+-- No answer is longer than a header of 35 bytes and 128 lines of 56; whoever lends as much always gets one.
 abbrev pub AnswerFits : Type 0
 AnswerFits = (text : List ℕ) → length (answer text) ≤ 7_203

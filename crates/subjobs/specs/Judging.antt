@@ -4,9 +4,13 @@
 --   firstRefusal J n    == the refusal of the smallest place below n that J refuses
 --   ifPassed j a f      == a if j passes, f of the reason if it refuses
 --   judgement s others  == refusals 1 to 4 in the order of the numbers
+--   values j            == document 01's number and values of a judgement: 0, or the reason's
 use Prim.Native.Nat.{ℕ, zero, suc}
 use mathlib.Core.Bool.{Bool, cond, _&&_, _||_}
+use mathlib.Core.List.{List, [], _∷_}
+use mathlib.Core.Path.{_≡_}
 use lib.Dec.{ltb, eqb}
+use lib.IntN.{ℤ, pos}
 use lib.ListN.{length}
 use Rattle.lists.specs.Search.{some}
 use Rattle.subjobs.specs.declared.Field.the-variants.{Release, Execution, Deadline, Critical}
@@ -14,6 +18,7 @@ use Rattle.subjobs.specs.declared.Reason.{Reason}
 use Rattle.subjobs.specs.declared.Reason.the-variants.{Lengths, TooMany, Range, Pair}
 use Rattle.subjobs.specs.declared.Judgement.{Judgement}
 use Rattle.subjobs.specs.declared.Judgement.the-variants.{Passed, Refused}
+use Rattle.subjobs.specs.Reasons as reasons
 use Rattle.subjobs.specs.Sets.{Subjobs, size, job, subtask, release, execution, deadline, critical}
 
 abbrev pub orElse : Judgement → Judgement → Judgement
@@ -71,3 +76,11 @@ judgement s others =
     (cond (ltb 128 (size s)) (Refused TooMany)
     (orElse (ranges (release s) (execution s) (deadline s) (critical s) (size s)) (pairs (job s) (subtask s) (size s))))
     (Refused Lengths)
+
+-- What `judge` is held to.
+abbrev pub Judges : Subjobs → Bool → Judgement → Type 0
+Judges s others r = r ≡ judgement s others
+
+abbrev pub values : Judgement → List ℤ
+values Passed = pos 0 ∷ []
+values (Refused r) = reasons.values r

@@ -2,7 +2,7 @@
 ghost use mathlib.Core.Path.{_≡_};
 ghost use Rattle.subjobs.specs.Reasons.{numberOf, placeOf, fieldOf, completionOf, boundOf};
 ghost use Rattle.subjobs.specs.Sets.{subjobs};
-ghost use Rattle.subjobs.specs.Judging.{judgement};
+ghost use Rattle.subjobs.specs.Judging.{Judges};
 
 mod judging;
 
@@ -181,7 +181,7 @@ pub fn judge(
     criticals: &[u32],
     others: bool,
 ) -> Judgement
-    ensures { λ r. ⌜ r ≡ judgement (subjobs (now (jobs .entry)) (now (subtasks .entry)) (now (releases .entry)) (now (executions .entry)) (now (deadlines .entry)) (now (criticals .entry))) others ⌝ }
+    ensures { λ r. ⌜ Judges (subjobs (now (jobs .entry)) (now (subtasks .entry)) (now (releases .entry)) (now (executions .entry)) (now (deadlines .entry)) (now (criticals .entry))) others r ⌝ }
 {
     let n = jobs.len();
     if !judging::one_length(

@@ -11,6 +11,7 @@
 use Prim.Native.Nat.{ℕ}
 use mathlib.Core.Bool.{cond}
 use mathlib.Core.List.{List, [], _∷_, _++_}
+use mathlib.Core.Path.{_≡_}
 use lib.Dec.{ltb}
 use lib.ListN.{length, getD, drop, replicate}
 use Rattle.lists.specs.Places.{places}
@@ -57,10 +58,14 @@ onParsed (refused r) = refusal r
 unfoldable pub answer : List ℕ → List ℕ
 answer text = onParsed (read text)
 
--- An output with less room than the longest answer, a header of 35 bytes and 128 lines of 56, is left as it was.
+-- An output with less room than any answer can take, a header of 35 bytes and 128 lines of at most 56, is left as it was.
 abbrev pub written : List ℕ → ℕ → Written
 written text n = cond (ltb n 7_203) NoRoom (Bytes (length (answer text)))
 
 -- Otherwise the answer stands in its first bytes, and the rest stays as it was.
 abbrev pub outcome : List ℕ → List ℕ → List ℕ
 outcome text out = cond (ltb (length out) 7_203) out (answer text ++ drop (length (answer text)) out)
+
+-- What `table` is held to: what it says it wrote, and what the output holds afterwards.
+abbrev pub Tables : (text out : List ℕ) → Written → List ℕ → Type 0
+Tables text out r out′ = (r ≡ written text (length out)) × (out′ ≡ outcome text out)

@@ -3,7 +3,7 @@ ghost use Prim.Native.Nat.{_≤_};
 ghost use mathlib.Core.Path.{_≡_};
 ghost use lib.ListN.{length};
 ghost use Rattle.table.specs.Stores.{Wrote};
-ghost use Rattle.table.specs.Answers.{answer, written, outcome};
+ghost use Rattle.table.specs.Answers.{answer, Tables};
 
 mod columns;
 mod reading;
@@ -37,7 +37,7 @@ fn put_answer(text: &[u8], out: &mut [u8]) -> usize
 // The deadlines of a table. The answer stands in the first bytes of the output, and the rest stays as it was; an output
 // of less than 7,203 bytes is left as it was.
 pub fn table(text: &[u8], out: &mut [u8]) -> Written
-    ensures { λ r. ⌜ (r ≡ written (now (text .entry)) (length (now (out .entry)))) × (now (out .exit) ≡ outcome (now (text .entry)) (now (out .entry))) ⌝ }
+    ensures { λ r. ⌜ Tables (now (text .entry)) (now (out .entry)) r (now (out .exit)) ⌝ }
 {
     if out.len() < 7_203 {
         return Written::NoRoom;

@@ -45,7 +45,7 @@ use Rattle.subjobs.specs.Sets.{subjobs}
 use Rattle.edf.specs.declared.Simulated.{Simulated}
 use Rattle.edf.specs.declared.Totals.{Totals}
 use Rattle.edf.specs.Answers as answers
-use Rattle.edf.specs.Events.{simulated}
+use Rattle.edf.specs.Answers.{simulated}
 use Rattle.edf.proofs.Answer as N
 use Rattle.edf.proofs.Answer.Laws as N′
 use Rattle.edf.proofs.Simulated as S

@@ -37,12 +37,14 @@ assign-fit-requires c κs =
     let j = c .before .before .before in
     let f = fits j (c .before .enum-told .given .1) in
     let l = f .lengths in (
-      rw (l .releases) (f .few),
-      l .executions ∙ sym (l .releases),
-      l .deadlines ∙ sym (l .releases),
-      l .criticals ∙ sym (l .releases),
+      (
+        rw (l .releases) (f .few),
+        l .executions ∙ sym (l .releases),
+        l .deadlines ∙ sym (l .releases),
+        l .criticals ∙ sym (l .releases),
+        λ i h. let q = f .ranges i (rw (← l .releases) h) in (q .release, q .some, q .execution, q .deadline, q .critical),
+      ),
       eqb-true _ _ (l .further) ∙ sym (l .releases),
-      λ i h. let q = f .ranges i (rw (← l .releases) h) in (q .release, q .some, q .execution, q .deadline, q .critical),
     )
 
 returns : tie.Need-returns

@@ -1,62 +1,53 @@
--- `bytes::columns` meets its contract: six columns, one after the other.
+-- `bytes::columns` meets its contract: the records read so far stand in their lists.
 use borrow.Author.Needs.{needs}
+use Prim.Native.Nat.{_-_, _≤_}
+use mathlib.Core.Path.{_≡_, refl}
 use native.Mathlib.Omega.{arith}
-use Rattle.charoktan.proofs.bytes.columns.Statement.{statement}
+use lib.ListN.{length}
 use Rattle.charoktan.proofs.bytes.columns.Tie as tie
+use Rattle.charoktan.specs.Records.{column, Fields}
+use Rattle.charoktan.proofs.bytes.columns.Statement.{statement}
 
-column-requires : tie.Need-column-requires
-column-requires c κs = search needs
+abbrev Inv-loop : tie.InvT-loop
+Inv-loop bytes n out₀ i₀ out i = (i ≤ n) × (length out ≡ length out₀) × Fields bytes n i out
 
-column-requires-2 : tie.Need-column-requires-2
-column-requires-2 c κs = search needs
+abbrev μ-loop : tie.MeasureT-loop
+μ-loop bytes n out₀ i₀ out i = n - i
 
-column-requires-3 : tie.Need-column-requires-3
-column-requires-3 c κs = search needs
+loop-holds : tie.Need-loop-holds Inv-loop μ-loop
+unfolding column
+loop-holds c = (search needs, search needs, λ k h. refl)
 
-column-requires-4 : tie.Need-column-requires-4
-column-requires-4 c κs = search needs
+record-requires : tie.Need-record-requires Inv-loop μ-loop
+record-requires c κs = search needs
 
-column-requires-5 : tie.Need-column-requires-5
-column-requires-5 c κs = search needs
+add-i : tie.Need-add-i Inv-loop μ-loop
+add-i c = search needs
 
-column-requires-6 : tie.Need-column-requires-6
-column-requires-6 c κs = let p = c .before .before .before .before .before .before .before .before .before .before .before .before .before .before .before .before .before .before .before .before .before .before .before .before .before .before .before .before .pre in (p .0, omega arith, p .6)
+loop-less : tie.Need-loop-less Inv-loop μ-loop
+loop-less c = search needs
 
-same-length : tie.Need-same-length
+loop-again : tie.Need-loop-again Inv-loop μ-loop
+loop-again c = search needs
+
+same-length : tie.Need-same-length Inv-loop μ-loop
 same-length c = search needs
 
-same-length-2 : tie.Need-same-length-2
-same-length-2 c = search needs
-
-same-length-3 : tie.Need-same-length-3
-same-length-3 c = search needs
-
-same-length-4 : tie.Need-same-length-4
-same-length-4 c = search needs
-
-same-length-5 : tie.Need-same-length-5
-same-length-5 c = search needs
-
-same-length-6 : tie.Need-same-length-6
-same-length-6 c = search needs
-
-returns : tie.Need-returns
-returns c = search needs
+returns : tie.Need-returns Inv-loop μ-loop
+returns c =
+    let z : c .before .loop .i ≡ c .before .before .before .before .args .n = omega arith in
+    rw z at (c .before .loop .inv .2)
 
 pub columns-spec : {M : Type 1} → statement M
 columns-spec =
     tie.close
     (tie.spec
-    column-requires
-    column-requires-2
-    column-requires-3
-    column-requires-4
-    column-requires-5
-    column-requires-6
+    Inv-loop
+    μ-loop
+    loop-holds
+    record-requires
+    add-i
+    loop-less
+    loop-again
     same-length
-    same-length-2
-    same-length-3
-    same-length-4
-    same-length-5
-    same-length-6
     returns)

@@ -10,13 +10,15 @@ use lib.Seq.{length-take-le, getD-take, take-set-lt}
 use lib.ListN.{length, getD, take, drop, length-take, length-drop}
 use Rattle.lists.specs.Order.{reversed, choose}
 use Rattle.lists.specs.Places.{Every, Nodup}
+use Rattle.lists.proofs.Mapped.{part-within}
 use Rattle.lists.proofs.Members.{every-at, every-drop, every-more}
-use Rattle.olda.specs.Method.{Outcome, placed, stuck, best, base, lower, steps}
+use Rattle.olda.specs.Method.{Outcome, placed, stuck, best, base, steps}
+use Rattle.olda.specs.Rules.{lower}
 use Rattle.olda.specs.Held.{completions}
 use Rattle.olda.specs.declared.placing.Placing.the-variants.{Placed, Stuck}
 use Rattle.olda.proofs.Held.{enough, leaves, fit-some, fit-most}
 use Rattle.olda.proofs.Shifts.{every-rest, nodup-rest}
-use Rattle.olda.proofs.Turns.{part-within, part-at, turn-late, turn-more}
+use Rattle.olda.proofs.Turns.{part-at, turn-late, turn-more}
 use Rattle.olda.proofs.placing.place_all.Statement.{statement}
 use Rattle.olda.proofs.placing.place_all.Tie as tie
 

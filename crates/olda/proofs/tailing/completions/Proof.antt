@@ -1,30 +1,61 @@
--- `tailing::completions` meets its contract: the completions written so far are those of the first tails.
+-- `tailing::completions` meets its contract: what stands before i are the completions of the first tails, and from i on
+-- the executions in release order.
 use borrow.Author.Needs.{needs}
-use Prim.Native.Nat.{ℕ, _-_, _≤_, _<_}
+use Prim.Native.Nat.{ℕ, _+_, _-_, _≤_, _<_}
 use mathlib.Core.Path.{_≡_, refl, _∙_}
+use mathlib.Core.List.{map}
 use native.Mathlib.Omega.{arith}
-use lib.ListN.{length, getD, take, length-set, length-take, length-drop}
 use lib.Seq.{take-all}
-use Rattle.lists.specs.Places.{Every}
+use lib.ListN.{length, getD, take, drop, length-set}
+use Rattle.lists.specs.Places.{weight}
 use Rattle.lists.proofs.Mapped.{take-more}
-use Rattle.lists.proofs.Members.{every-drop, every-more}
+use Rattle.lists.proofs.Members.{every-at, every-more}
 use Rattle.olda.specs.Held.{completions}
-use Rattle.olda.proofs.Held.{part-tail, completions-length, completions-most, completions-part}
+use Rattle.olda.proofs.Held.{completions-length, completions-most, completions-part, executions-part}
 use Rattle.olda.proofs.tailing.completions.Statement.{statement}
 use Rattle.olda.proofs.tailing.completions.Tie as tie
 
 abbrev Inv-loop : tie.InvT-loop
-Inv-loop order releases executions ends₀ i₀ ends i =
-    (i ≤ length order) × (length ends ≡ length ends₀) × (take i ends ≡ take i (completions (λ j. getD releases j 0) (λ j. getD executions j 0) order))
+Inv-loop order releases executions ends₀ n i₀ ends i =
+    (i ≤ length order)
+    × (length ends ≡ length ends₀)
+    × (take i ends ≡ take i (completions (λ j. getD releases j 0) (λ j. getD executions j 0) order))
+    × (drop i (take (length order) ends) ≡ drop i (map (λ j. getD executions j 0) order))
 
 abbrev μ-loop : tie.MeasureT-loop
-μ-loop order releases executions ends₀ i₀ ends i = length order - i
+μ-loop order releases executions ends₀ n i₀ ends i = length order - i
+
+executions-in-order-requires : tie.Need-executions-in-order-requires Inv-loop μ-loop
+executions-in-order-requires c κs =
+    (c .before .before .before .before .before .pre .1, rw (c .before .before .before .before .before .pre .2) (c .before .before .before .before .before .pre .3))
 
 loop-holds : tie.Need-loop-holds Inv-loop μ-loop
-loop-holds c = (search needs, search needs, refl)
+loop-holds c = (search needs, search needs, refl, c .before .before .executions-in-order .ensures)
+
+mul-index : tie.Need-mul-index Inv-loop μ-loop
+mul-index c = search needs
+
+shared-slice-read-index : tie.Need-shared-slice-read-index Inv-loop μ-loop
+shared-slice-read-index c = search needs
+
+index-requires : tie.Need-index-requires Inv-loop μ-loop
+index-requires c κs = search needs
+
+-- What stands at i is a place of the set.
+inside : (c : tie.After-index Inv-loop μ-loop) → c .index .result < length (c .before .before .before .before .before .before .before .before .before .before .before .before .args .releases .now)
+inside c =
+    let a = c .before .before .before .before .before .before .before .before .before .before .before .before .args in
+    omega
+    (arith, c .index .ensures, every-at (λ p. p < length (a .releases .now)) (a .order .now) (c .before .before .before .loop .i) (c .before .before .loop-test .taken) (c .before .before .before .before .before .before .before .before .before .before .before .before .pre .3))
 
 mul-completion : tie.Need-mul-completion Inv-loop μ-loop
-mul-completion c = search needs
+mul-completion c = let h = inside c in search needs
+
+shared-slice-read-completion : tie.Need-shared-slice-read-completion Inv-loop μ-loop
+shared-slice-read-completion c = let h = inside (c .before) in search needs
+
+mul-completion-2 : tie.Need-mul-completion-2 Inv-loop μ-loop
+mul-completion-2 c = search needs
 
 sub-completion : tie.Need-sub-completion Inv-loop μ-loop
 sub-completion c = search needs
@@ -35,26 +66,27 @@ part-completion-start c = search needs
 part-completion-end : tie.Need-part-completion-end Inv-loop μ-loop
 part-completion-end c = search needs
 
--- All are in their ranges.
-ranged :
+-- The part from i on is a tail, and its completion is the one to be written at i.
+told :
     (c : tie.After-completion-arg Inv-loop μ-loop)
-    → Every (λ p. (getD (c .before .before .before .before .before .before .before .args .releases .now) p 0 ≤ 1_000_000_000) × (getD (c .before .before .before .before .before .before .before .args .executions .now) p 0 ≤ 1_000_000)) (c .before .before .before .before .before .before .before .args .order .now)
-ranged c =
-    let a = c .before .before .before .before .before .before .before .args in
-    every-more (λ p. p < length (a .releases .now)) (λ p. (getD (a .releases .now) p 0 ≤ 1_000_000_000) × (getD (a .executions .now) p 0 ≤ 1_000_000))
-    (λ p h. c .before .before .before .before .before .before .before .pre .4 p h) (a .order .now) (c .before .before .before .before .before .before .before .pre .3)
+    → getD (c .before .before .before .before .before .before .before .before .before .before .before .before .before .before .before .args .releases .now) (c .before .before .before .index .result) 0 + weight (λ x. x) (take (length (c .before .before .before .before .before .before .before .before .before .before .before .before .before .before .before .args .order .now) - c .before .before .before .before .before .before .loop .i) (drop (c .before .before .before .before .before .before .loop .i) (c .before .before .before .before .before .before .loop .ends)))
+    ≡ getD (completions (λ p. getD (c .before .before .before .before .before .before .before .before .before .before .before .before .before .before .before .args .releases .now) p 0) (λ p. getD (c .before .before .before .before .before .before .before .before .before .before .before .before .before .before .before .args .executions .now) p 0) (c .before .before .before .before .before .before .before .before .before .before .before .before .before .before .before .args .order .now)) (c .before .before .before .before .before .before .loop .i) 0
+told c =
+    let a = c .before .before .before .before .before .before .before .before .before .before .before .before .before .before .before .args in
+    let L = c .before .before .before .before .before .before .loop in
+    rw (c .before .before .before .index .ensures)
+    (completions-part (λ p. getD (a .releases .now) p 0) (λ p. getD (a .executions .now) p 0) (a .order .now) (L .ends) (L .i) (c .before .before .before .before .before .loop-test .taken) (L .inv .3))
 
 completion-requires : tie.Need-completion-requires Inv-loop μ-loop
 completion-requires c κs =
-    let a = c .before .before .before .before .before .before .before .args in
-    let i = c .before .before .loop .i in
-    let r : ℕ → ℕ = λ p. getD (a .releases .now) p 0 in
-    let x : ℕ → ℕ = λ p. getD (a .executions .now) p 0 in (
-      simp (length-take, length-drop) (omega arith),
-      c .before .before .before .before .before .before .before .pre .2,
-      rw (part-tail (a .order .now) i) (every-drop (λ p. p < length (a .releases .now)) i (a .order .now) (c .before .before .before .before .before .before .before .pre .3)),
-      rw (completions-part r x (a .order .now) i (c .before .loop-test .taken)) (omega (arith, completions-most r x (a .order .now) (ranged c) (c .before .before .before .before .before .before .before .pre .0) i (c .before .loop-test .taken))),
-    )
+    let a = c .before .before .before .before .before .before .before .before .before .before .before .before .before .before .before .args in
+    rw (told c)
+    (omega (
+      arith,
+      completions-most (λ p. getD (a .releases .now) p 0) (λ p. getD (a .executions .now) p 0) (a .order .now)
+          (every-more (λ p. p < length (a .releases .now)) (λ p. (getD (a .releases .now) p 0 ≤ 1_000_000_000) × (getD (a .executions .now) p 0 ≤ 1_000_000)) (λ p h. c .before .before .before .before .before .before .before .before .before .before .before .before .before .before .before .pre .4 p h) (a .order .now) (c .before .before .before .before .before .before .before .before .before .before .before .before .before .before .before .pre .3))
+          (c .before .before .before .before .before .before .before .before .before .before .before .before .before .before .before .pre .0) (c .before .before .before .before .before .before .loop .i) (c .before .before .before .before .before .loop-test .taken),
+    ))
 
 mul-ends : tie.Need-mul-ends Inv-loop μ-loop
 mul-ends c = search needs
@@ -70,15 +102,15 @@ loop-less c = search needs
 
 loop-again : tie.Need-loop-again Inv-loop μ-loop
 loop-again c =
-    let L = c .before .before .before .loop in
-    let a = c .before .before .before .before .before .before .before .before .args in
+    let L = c .before .before .before .before .before .before .before .loop in
+    let a = c .before .before .before .before .before .before .before .before .before .before .before .before .before .before .before .before .args in
     let r : ℕ → ℕ = λ p. getD (a .releases .now) p 0 in
     let x : ℕ → ℕ = λ p. getD (a .executions .now) p 0 in
-    let told = c .completion .ensures ∙ completions-part r x (a .order .now) (L .i) (c .before .before .loop-test .taken) in (
+    let m = c .completion .ensures ∙ told (c .before) in (
       search needs,
       simp length-set (L .inv .1),
-      rw told
-          (take-more (L .ends) (completions r x (a .order .now)) (L .i) (omega arith) (omega (arith, completions-length r x (a .order .now))) (L .inv .2)),
+      rw m (take-more (L .ends) (completions r x (a .order .now)) (L .i) (omega arith) (omega (arith, completions-length r x (a .order .now))) (L .inv .2)),
+      executions-part r x (a .order .now) (L .ends) (L .i) (c .before .before .before .before .before .before .loop-test .taken) (L .inv .3) (c .completion .result),
     )
 
 same-length : tie.Need-same-length Inv-loop μ-loop
@@ -86,11 +118,12 @@ same-length c = search needs
 
 returns : tie.Need-returns Inv-loop μ-loop
 returns c =
-    let a = c .before .before .before .before .before .before .args in
+    let L = c .before .loop in
+    let a = c .before .before .before .before .before .before .before .before .before .before .args in
     let r : ℕ → ℕ = λ p. getD (a .releases .now) p 0 in
     let x : ℕ → ℕ = λ p. getD (a .executions .now) p 0 in
-    let z : length (a .order .now) ≡ c .before .loop .i = omega arith in
-    rw z (c .before .loop .inv .2 ∙ take-all (c .before .loop .i) (completions r x (a .order .now)) (omega (arith, completions-length r x (a .order .now))))
+    let z : length (a .order .now) ≡ L .i = omega arith in
+    rw z (L .inv .2 ∙ take-all (L .i) (completions r x (a .order .now)) (omega (arith, completions-length r x (a .order .now))))
 
 pub completions-spec : {M : Type 1} → statement M
 completions-spec =
@@ -98,8 +131,14 @@ completions-spec =
     (tie.spec
     Inv-loop
     μ-loop
+    executions-in-order-requires
     loop-holds
+    mul-index
+    shared-slice-read-index
+    index-requires
     mul-completion
+    shared-slice-read-completion
+    mul-completion-2
     sub-completion
     part-completion-start
     part-completion-end
