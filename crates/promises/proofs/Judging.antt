@@ -19,6 +19,7 @@ use Rattle.subjobs.specs.declared.Judgement.the-variants.{Passed, Refused}
 use Rattle.subjobs.specs.Reasons.{fieldNumber}
 use Rattle.subjobs.specs.Sets.{Subjobs, size, job, subtask, release, execution, deadline, critical}
 use Rattle.subjobs.specs.Judging.{oneLength, orElse, refusalFrom, rangeAt, ranges, pairAt, pairs, judgement, values}
+use Rattle.subjobs.proofs.Fit.{refused-passed}
 use Rattle.subjobs.proofs.Lengths.{one-length, judged-lengths, judged-many, judged-rest}
 use Rattle.promises.specs.Judging.{OneLength, Ranged, InRange, AllInRange, SamePair, New, AllNew, refusal, PassesExactly, NamesLengths, NamesMany, NamesRange, NamesPair}
 
@@ -178,15 +179,11 @@ data Judged (s : Subjobs) (others : Bool) : Type 0 where
       → AllNew s
       → Judged s others
 
--- What passes a check that refuses is no refusal.
-refused-passed : {X : Type 0} {j : Judgement} (r : Reason) → j ≡ Refused r → j ≡ Passed → X
-refused-passed r e q = let z : _≡_ {A = ℕ} 0 1 = cc in absurd (omega arith)
-
 in-range : (s : Subjobs) (p : ℕ) → rangeOf s p ≡ Passed → InRange s p
-in-range s p e = split (range-cases s p) (λ h. h .1) (λ h. refused-passed (Range p (h .0)) (h .1) e)
+in-range s p e = split (range-cases s p) (λ h. h .1) (λ h. refused-passed (Range p (h .0)) (sym (h .1) ∙ e))
 
 new : (s : Subjobs) (p : ℕ) → pairAt (job s) (subtask s) p ≡ Passed → New s p
-new s p e = split (pair-cases s p) (λ h. h .1) (λ h. refused-passed (Pair p) (h .0) e)
+new s p e = split (pair-cases s p) (λ h. h .1) (λ h. refused-passed (Pair p) (sym (h .0) ∙ e))
 
 module _ (s : Subjobs) (others : Bool) where
   all-same : OneLength s others → oneLength s others ≡ true
@@ -221,7 +218,7 @@ module _ (s : Subjobs) (others : Bool) where
     by-pairs e all (nowhere is none) =
         fits (ap values (after-ranges Passed e ∙ is)) (lengths same) few all (λ i h. new s i (none i (omega arith) (omega arith)))
     by-pairs e all (first p r is at lo hi before) =
-        split (pair-cases s p) (λ h. refused-passed r at (h .0))
+        split (pair-cases s p) (λ h. refused-passed r (sym at ∙ h .0))
         (λ h.
         seen p (ap values (after-ranges Passed e ∙ is ∙ sym at ∙ h .0)) (lengths same) few all
         (omega arith, h .1, λ i l. new s i (before i (omega arith) l)))
@@ -230,7 +227,7 @@ module _ (s : Subjobs) (others : Bool) where
     by-ranges (nowhere is all) =
         by-pairs is (λ i h. in-range s i (all i (omega arith) (omega arith))) (searched (pairAt (job s) (subtask s)) (size s) 0)
     by-ranges (first p r is at lo hi before) =
-        split (range-cases s p) (λ h. refused-passed r at (h .0))
+        split (range-cases s p) (λ h. refused-passed r (sym at ∙ h .0))
         (λ h.
         out p (h .0) (ap values (after-ranges (Refused (Range p (h .0))) (is ∙ sym at ∙ h .1))) (lengths same) few
         (omega arith, λ i l. in-range s i (before i (omega arith) l), h .2))
