@@ -1,5 +1,5 @@
 // Conditions (6) and (7) at the smallest place that fails them.
-ghost use Prim.Native.Nat.{ℕ, _+_, _≤_};
+ghost use Prim.Native.Nat.{_+_, _≤_};
 ghost use mathlib.Core.Path.{_≡_};
 ghost use lib.Dec.{leb, eqb};
 ghost use lib.ListN.{length, getD};

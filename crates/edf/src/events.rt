@@ -1,10 +1,9 @@
 // The parts of an event: who is to be served, when somebody is released next, and how long that holds.
-ghost use Prim.Native.Nat.{ℕ, _+_, _≤_, _<_, min};
+ghost use Prim.Native.Nat.{_<_, min};
 ghost use mathlib.Core.Path.{_≡_};
 ghost use mathlib.Core.Bool.{cond, _&&_};
 ghost use lib.Dec.{leb, ltb, eqb};
-ghost use lib.ListN.{length, getD};
-ghost use Rattle.lists.specs.Places.{places};
+ghost use lib.ListN.{length};
 ghost use Rattle.edf.specs.Events.{at, owedIn, soonerIn, toServe, nextRelease, stretch, Sized};
 
 // A sub-job is owed the smaller of its ask and its execution.

@@ -1,6 +1,4 @@
 // The assignment: OLDA on one core. Each sub-job of a set gets a local deadline, or the set is refused.
-ghost use mathlib.Core.Path.{_≡_};
-ghost use lib.ListN.{length};
 ghost use Rattle.subjobs.specs.Sets.{subjobs};
 ghost use Rattle.olda.specs.Answers.{Assigns};
 use subjobs::Judgement;

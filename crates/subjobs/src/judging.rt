@@ -1,5 +1,5 @@
 // Refusals 1, 3 and 4, each by a function of its own.
-ghost use Prim.Native.Nat.{ℕ, _<_};
+ghost use Prim.Native.Nat.{_<_};
 ghost use mathlib.Core.Path.{_≡_};
 ghost use lib.ListN.{length, getD};
 ghost use Rattle.subjobs.specs.Sets.{subjobs};

@@ -1,6 +1,5 @@
 // A table of sub-jobs as RFC 4180 text in, its deadlines as text out.
 ghost use Prim.Native.Nat.{_≤_};
-ghost use mathlib.Core.Path.{_≡_};
 ghost use lib.ListN.{length};
 ghost use Rattle.table.specs.Stores.{Wrote};
 ghost use Rattle.table.specs.Answers.{answer, Tables};

@@ -1,5 +1,5 @@
 // Writing: text put into the output from a place on. Each function answers the place behind what it wrote.
-ghost use Prim.Native.Nat.{_+_, _*_, _≤_, _<_};
+ghost use Prim.Native.Nat.{_+_, _*_, _≤_};
 ghost use mathlib.Core.Path.{_≡_};
 ghost use mathlib.Core.List.{[], _∷_, _++_};
 ghost use lib.IntN.{pos};
