@@ -73,10 +73,7 @@ pub front :
     → take n local ≡ results s (replicate n 0)
 front s n zeros local h z e =
     let t : take n zeros ≡ replicate n 0 = ap (take n) z ∙ take-replicate n (length zeros) 0 h in
-    e′ t
-  where
-    e′ : take n zeros ≡ replicate n 0 → take n local ≡ results s (replicate n 0)
-    e′ t = rw (e, t) (take-at (results s (replicate n 0)) (drop n zeros) n (results-length s (replicate n 0) ∙ length-replicate {A = ℕ} n 0))
+    rw (e, t) (take-at (results s (replicate n 0)) (drop n zeros) n (results-length s (replicate n 0) ∙ length-replicate {A = ℕ} n 0))
 
 module _ (bs ds : List ℕ) where
   pub unfit-check : fitting bs (length ds) ≡ false → checked bs ds ≡ 1

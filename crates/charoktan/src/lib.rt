@@ -64,13 +64,13 @@ fn assign_in(records: &[u8], deadlines: &mut [u8], fields: &mut [u32], local: &m
     }
 }
 
-// The same with the room made here, for up to 16 sub-jobs: less of it is cleared before each call.
+// The same with the room made here, for up to 8 sub-jobs: less of it is cleared before each call.
 fn assign_few(records: &[u8], deadlines: &mut [u8]) -> u32
-    requires { ⌜ (fitting (now records) (length (now deadlines)) ≡ true) × (count (now records) ≤ 16) ⌝ }
+    requires { ⌜ (fitting (now records) (length (now deadlines)) ≡ true) × (count (now records) ≤ 8) ⌝ }
     ensures { λ r. ⌜ AssignsBytes (now (records .entry)) (now (deadlines .entry)) r (now (deadlines .exit)) ⌝ }
 {
-    let mut fields = [0u32; 96];
-    let mut local = [0u32; 16];
+    let mut fields = [0u32; 48];
+    let mut local = [0u32; 8];
     assign_in(records, deadlines, &mut fields, &mut local)
 }
 
@@ -96,7 +96,7 @@ pub extern "C" fn charoktan_assign(records: &[u8], deadlines: &mut [u8]) -> u32
     if 128 < n {
         return 2;
     }
-    if n <= 16 {
+    if n <= 8 {
         assign_few(records, deadlines)
     } else {
         assign_many(records, deadlines)
@@ -134,12 +134,12 @@ fn check_in(records: &[u8], deadlines: &[u8], fields: &mut [u32]) -> u32
     }
 }
 
-// The same with the room made here, for up to 16 sub-jobs.
+// The same with the room made here, for up to 8 sub-jobs.
 fn check_few(records: &[u8], deadlines: &[u8]) -> u32
-    requires { ⌜ (fitting (now records) (length (now deadlines)) ≡ true) × (count (now records) ≤ 16) ⌝ }
+    requires { ⌜ (fitting (now records) (length (now deadlines)) ≡ true) × (count (now records) ≤ 8) ⌝ }
     ensures { λ r. ⌜ ChecksBytes (now (records .entry)) (now (deadlines .entry)) r ⌝ }
 {
-    let mut fields = [0u32; 112];
+    let mut fields = [0u32; 56];
     check_in(records, deadlines, &mut fields)
 }
 
@@ -164,7 +164,7 @@ pub extern "C" fn charoktan_check(records: &[u8], deadlines: &[u8]) -> u32
     if 128 < n {
         return 2;
     }
-    if n <= 16 {
+    if n <= 8 {
         check_few(records, deadlines)
     } else {
         check_many(records, deadlines)

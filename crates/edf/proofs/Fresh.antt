@@ -5,15 +5,14 @@ use mathlib.Core.List.{List}
 use mathlib.Core.Path.{_≡_}
 use native.Mathlib.Omega.{arith}
 use borrow.Author.Tests.{le-ltb, eq-eqb}
-use lib.ListN.{length, getD}
+use lib.ListN.{length}
 use Rattle.lists.specs.Places.{places}
 use Rattle.lists.proofs.Members.{nodup-from}
 use Rattle.subjobs.specs.declared.Judgement.the-variants.{Passed}
-use Rattle.subjobs.specs.Sets.{Subjobs, size, job, subtask, release, execution}
+use Rattle.subjobs.specs.Sets.{Subjobs, size, release, execution}
 use Rattle.subjobs.specs.Judging.{judgement}
 use Rattle.subjobs.proofs.Fit.{Fit, fit}
-use Rattle.edf.specs.Runs.{sooner, owed}
-use Rattle.edf.specs.Answers.{runOf, run, added, above, furtherLists, answer, finishes}
+use Rattle.edf.specs.Answers.{due, servedBefore, runOf, run, added, above, furtherLists, answer, finishes}
 use Rattle.edf.proofs.Ends.{end-horizon}
 use Rattle.edf.proofs.Turns.{below, horizon-fits}
 use Rattle.edf.proofs.Ticks.{run-ticks}
@@ -26,8 +25,8 @@ module _ (s : Subjobs) (ds asks : List ℕ) (passed : judgement s true ≡ Passe
   few-ticks : run s ds asks .busy + run s ds asks .idle ≤ 1_128_000_000
   unfolding runOf
   few-ticks =
-      let o : ℕ → ℕ = owed (execution s) (λ i. getD asks i 0) in
-      let lt : ℕ → ℕ → Bool = sooner (λ i. getD ds i 0) (job s) (subtask s) in
+      let o : ℕ → ℕ = due s asks in
+      let lt : ℕ → ℕ → Bool = servedBefore s ds in
       omega (
         arith,
         run-ticks s ds asks (known .few),

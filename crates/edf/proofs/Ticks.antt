@@ -13,12 +13,12 @@ use Rattle.lists.specs.Places.{places, weight, Nodup}
 use Rattle.lists.proofs.Cases.{split}
 use Rattle.lists.proofs.Members.{in-places, nodup-from, from-length}
 use Rattle.lists.proofs.Mapped.{at-map, places-at}
-use Rattle.subjobs.specs.Sets.{Subjobs, size, job, subtask, release, execution}
+use Rattle.subjobs.specs.Sets.{Subjobs, size, release}
 use Rattle.edf.specs.declared.Totals.{Totals}
 use Rattle.edf.specs.declared.Report.{Report}
 use Rattle.edf.specs.declared.Answer.the-variants.{Ran}
-use Rattle.edf.specs.Runs.{sooner, owed, horizon, finish}
-use Rattle.edf.specs.Answers.{runOf, run, added, answer, totals}
+use Rattle.edf.specs.Runs.{owed, horizon, finish}
+use Rattle.edf.specs.Answers.{due, servedBefore, runOf, run, added, answer, totals}
 use Rattle.edf.proofs.Service.{served, turn, served-is-active, served-later}
 use Rattle.edf.proofs.Counted.{done-horizon}
 use Rattle.edf.proofs.Ends.{ended, ended-most, still, last-tick, finish-owed, busy-owed, all-ticks}
@@ -66,41 +66,35 @@ module _ (r o : ℕ → ℕ) (lt : ℕ → ℕ → Bool) (xs : List ℕ) (small 
 
 -- Whole runs of a set, whatever its deadlines and asks.
 module _ (s : Subjobs) (ds asks : List ℕ) where
-  abbrev owedOf : ℕ → ℕ
-  owedOf = owed (execution s) (λ i. getD asks i 0)
-
-  abbrev orderOf : ℕ → ℕ → Bool
-  orderOf = sooner (λ i. getD ds i 0) (job s) (subtask s)
-
-  pub finish-at : (i : ℕ) → i < size s → getD (run s ds asks .finishes) i 0 ≡ finish (release s) owedOf orderOf (places (size s)) i
+  pub finish-at : (i : ℕ) → i < size s → getD (run s ds asks .finishes) i 0 ≡ finish (release s) (due s asks) (servedBefore s ds) (places (size s)) i
   unfolding runOf
   finish-at i h =
-      let f = finish (release s) owedOf orderOf (places (size s)) in
+      let f = finish (release s) (due s asks) (servedBefore s ds) (places (size s)) in
       at-map f (places (size s)) i (omega (arith, from-length 0 (size s))) ∙ ap f (places-at (size s) i h)
 
   -- The finish of one that is owed nothing is its release.
-  pub finish-nothing : (i : ℕ) → i < size s → owedOf i ≡ 0 → getD (run s ds asks .finishes) i 0 ≡ release s i
+  pub finish-nothing : (i : ℕ) → i < size s → due s asks i ≡ 0 → getD (run s ds asks .finishes) i 0 ≡ release s i
   unfolding finish
-  finish-nothing i h z = finish-at i h ∙ rw (eq-eqb (owedOf i) 0 z)
+  finish-nothing i h z = finish-at i h ∙ rw (eq-eqb (due s asks i) 0 z)
 
   module _ (few : size s ≤ 128) where
     -- Busy is the sum of what is owed.
-    pub run-busy : run s ds asks .busy ≡ weight owedOf (places (size s))
+    pub run-busy : run s ds asks .busy ≡ weight (due s asks) (places (size s))
     unfolding runOf
-    run-busy = busy-owed (release s) owedOf orderOf (places (size s)) (below (size s) few) (nodup-from 0 (size s))
+    run-busy = busy-owed (release s) (due s asks) (servedBefore s ds) (places (size s)) (below (size s) few) (nodup-from 0 (size s))
 
     -- Busy plus idle is the end.
     pub run-ticks : run s ds asks .busy + run s ds asks .idle ≡ run s ds asks .end
     unfolding runOf
-    run-ticks = all-ticks (release s) owedOf orderOf (places (size s)) (below (size s) few) (nodup-from 0 (size s))
+    run-ticks = all-ticks (release s) (due s asks) (servedBefore s ds) (places (size s)) (below (size s) few) (nodup-from 0 (size s))
 
     -- A finish is the end of the last tick served.
     pub run-finish :
-        (i : ℕ) → i < size s → 0 < owedOf i
-        → LastTick (release s) owedOf orderOf (places (size s)) i (getD (run s ds asks .finishes) i 0)
+        (i : ℕ) → i < size s → 0 < due s asks i
+        → LastTick (release s) (due s asks) (servedBefore s ds) (places (size s)) i (getD (run s ds asks .finishes) i 0)
     run-finish i h l =
         rw (finish-at i h)
-        (finish-last (release s) owedOf orderOf (places (size s)) (below (size s) few) (nodup-from 0 (size s)) i (in-places (size s) i h) l)
+        (finish-last (release s) (due s asks) (servedBefore s ds) (places (size s)) (below (size s) few) (nodup-from 0 (size s)) i (in-places (size s) i h) l)
 
 -- An accepted run adds its ticks to the totals,
 pub ran-adds :

@@ -248,15 +248,6 @@ weight-by f k zero a h = omega arith
 weight-by f k (suc n) a h =
     rw (suc-mul n k) (omega (arith, h a (omega arith), weight-by f k n (suc a) (λ i l. h i (omega arith))))
 
--- A run of n sub-jobs has at most 2n events.
-pub events-few : (r o : ℕ → ℕ) (n t : ℕ) (v : List ℕ) → eventsLeft r o (places n) t v ≤ n + n
-events-few r o n t v =
-    omega (
-      arith,
-      weight-by (unreleased r t) 1 n 0 (λ i l. test (ltb t (r i)) (λ e. rw e (omega arith)) (λ e. rw e (omega arith))),
-      weight-by (unserved o v) 1 n 0 (λ i l. test (ltb (getD v i 0) (o i)) (λ e. rw e (omega arith)) (λ e. rw e (omega arith))),
-    )
-
 module _ (r o : ℕ → ℕ) (lt : ℕ → ℕ → Bool) (n : ℕ) where
   -- Moments fit 32 bits.
   pub horizon-fits :

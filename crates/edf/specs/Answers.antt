@@ -1,5 +1,8 @@
 -- What the simulator answers, and what the finishes and the totals hold afterwards.
 --
+--   due s asks i             == what place i is owed: the smaller of its ask and its execution
+--   servedBefore s ds i j    == with deadlines ds, place i is served before place j
+--   coreAt s ds asks t       == the set's core at moment t
 --   run s ds asks            == the run of a set with deadlines ds and these asks: finishes, end, busy and idle ticks
 --   answer s ds asks n t     == the answer, for a list of n finishes and a record of totals t
 --   values a                 == document 01's number and values of an answer: 0 and the end, or the reason's
@@ -21,6 +24,7 @@ use Rattle.edf.specs.declared.Totals.{Totals}
 use Rattle.edf.specs.declared.Simulated.{Simulated}
 use Rattle.edf.specs.declared.Answer.{Answer}
 use Rattle.edf.specs.declared.Answer.the-variants.{Ran, Refused}
+use Rattle.edf.specs.Core.{Core, after}
 use Rattle.edf.specs.Runs.{sooner, owed, finish, end, busyTicks, idleTicks}
 
 pub record Run : Type 0 where
@@ -39,9 +43,21 @@ runOf r o lt n =
       idle = idleTicks r o lt (places n);
     }
 
+-- what a sub-job of the set is owed,
+abbrev pub due : Subjobs → List ℕ → ℕ → ℕ
+due s asks = owed (execution s) (λ i. getD asks i 0)
+
+-- who is served before whom,
+abbrev pub servedBefore : Subjobs → List ℕ → ℕ → ℕ → Bool
+servedBefore s ds = sooner (λ i. getD ds i 0) (job s) (subtask s)
+
+-- the set's core at moment t,
+abbrev pub coreAt : Subjobs → List ℕ → List ℕ → ℕ → Core
+coreAt s ds asks t = after (release s) (due s asks) (servedBefore s ds) (places (size s)) t
+
+-- and its run
 abbrev pub run : Subjobs → List ℕ → List ℕ → Run
-run s ds asks =
-    runOf (release s) (owed (execution s) (λ i. getD asks i 0)) (sooner (λ i. getD ds i 0) (job s) (subtask s)) (size s)
+run s ds asks = runOf (release s) (due s asks) (servedBefore s ds) (size s)
 
 -- Each run adds its own ticks to the record of totals.
 abbrev pub added : Run → Totals → Totals

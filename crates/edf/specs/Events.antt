@@ -22,7 +22,6 @@ use lib.ListN.{length, getD}
 use Rattle.lists.specs.Places.{places, filter, least, greatest}
 use Rattle.lists.specs.Order.{given}
 use Rattle.subjobs.specs.declared.Reason.the-variants as reason
-use Rattle.subjobs.specs.Sets.{Subjobs}
 use Rattle.edf.specs.declared.Totals.{Totals}
 use Rattle.edf.specs.declared.Simulated.{Simulated}
 use Rattle.edf.specs.declared.Answer.the-variants.{Ran, Refused}

@@ -4,14 +4,18 @@ use mathlib.Core.Bool.{Bool, true, false, cond}
 use mathlib.Core.List.{List}
 use mathlib.Core.Option.{some}
 use mathlib.Core.Path.{_≡_, sym}
+use native.Mathlib.Nat.{add-zero}
 use native.Mathlib.Numerals.{add-one}
 use native.Mathlib.Omega.{arith}
+use borrow.Author.Tests.{lt-ltb, le-ltb}
+use lib.Dec.{ltb}
 use lib.ListN.{length, getD, drop, drop-of-length-le}
 use lib.Seq.{drop-cons}
 use Rattle.lists.specs.Places.{places}
 use Rattle.lists.specs.Order.{ahead, choose}
 use Rattle.lists.proofs.Members.{from-length}
 use Rattle.lists.proofs.Mapped.{places-at}
+use Rattle.olda.specs.Rules.{lower}
 
 module _ (lt : ℕ → ℕ → Bool) (xs : List ℕ) where
   pub choose-first : 0 < length xs → choose lt xs ≡ some (ahead lt (getD xs 0 0) (drop 1 xs))
@@ -33,6 +37,17 @@ module _ (lt : ℕ → ℕ → Bool) (xs : List ℕ) where
   pub ahead-end : (p i q : ℕ) → length xs ≤ i → ahead lt p (drop i xs) ≡ q → q ≡ p
   unfolding ahead
   ahead-end p i q h e = sym (rw (drop-of-length-le xs h) at e)
+
+-- The tie rule, where nothing is taken off the bounds.
+module _ (u : ℕ → ℕ) (p q : ℕ) where
+  pub lower-bound : u p < u q → lower u (λ i. 0) p q ≡ true
+  lower-bound h = simp (add-zero, lt-ltb (u p) (u q) h)
+
+  pub lower-tie : u p ≡ u q → lower u (λ i. 0) p q ≡ ltb p q
+  lower-tie e = simp (add-zero, le-ltb (u p) (u q) (omega arith), le-ltb (u q) (u p) (omega arith))
+
+  pub lower-not : u q < u p → lower u (λ i. 0) p q ≡ false
+  lower-not h = simp (add-zero, le-ltb (u p) (u q) (omega arith), lt-ltb (u q) (u p) h)
 
 -- The same over all places of a set.
 module _ (lt : ℕ → ℕ → Bool) (n : ℕ) where

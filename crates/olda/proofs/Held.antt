@@ -1,15 +1,13 @@
 -- The completions that the code holds: what they say of the tails, of `best` and of `base`, and what becomes of them when
 -- a sub-job leaves.
-use Prim.Native.Nat.{ℕ, zero, suc, _+_, _-_, _*_, _<_, _≤_, max}
-use mathlib.Core.Bool.{cond}
+use Prim.Native.Nat.{ℕ, zero, suc, _+_, _-_, _*_, _<_, _≤_}
 use mathlib.Core.List.{List, [], _∷_, map}
 use mathlib.Core.Path.{_≡_, refl, sym, ap, _∙_}
 use native.Mathlib.Numerals.{add-one}
 use native.Mathlib.Omega.{arith}
 use borrow.Author.Tests.{lt-ltb, le-ltb}
-use lib.Dec.{ltb}
 use lib.ListN.{length, getD, take, drop, set}
-use lib.Seq.{drop-cons, drop-length, drop-drop, drop-set-lt, getD-take, take-set-lt}
+use lib.Seq.{drop-cons, drop-drop, drop-set-lt, getD-take, length-take-le, take-set-lt}
 use Rattle.lists.specs.Places.{weight, Every}
 use Rattle.lists.proofs.Mapped.{part-within}
 use Rattle.lists.proofs.Members.{every-more}
@@ -109,11 +107,18 @@ module _ (r c : ℕ → ℕ) where
       (arith, e .0 .0, weight-most c (x ∷ xs) (every-more (λ y. (r y ≤ 1_000_000_000) × (c y ≤ 1_000_000)) (λ y. c y ≤ 1_000_000) (λ y q. q .1) (x ∷ xs) e))
   completions-most (x ∷ xs) e few (suc i) h = completions-most xs (e .1) (omega arith) i (omega arith)
 
-  -- Numbers that from i to the end of xs are executions still: that part is a tail's, and its completion stands at i.
-  module _ (xs es : List ℕ) (i : ℕ) (h : i < length xs) (e : drop i (take (length xs) es) ≡ drop i (map c xs)) where
-    pub completions-part : r (getD xs i 0) + weight (λ x. x) (take (length xs - i) (drop i es)) ≡ getD (completions r c xs) i 0
+  -- Numbers that from i to the end of xs are executions still: they are a tail's, the first and the part behind it, and
+  -- its completion stands at i.
+  module _ (xs es : List ℕ) (i : ℕ) (h : i < length xs) (room : length xs ≤ length es) (e : drop i (take (length xs) es) ≡ drop i (map c xs)) where
+    whole : r (getD xs i 0) + weight (λ x. x) (drop i (take (length xs) es)) ≡ getD (completions r c xs) i 0
+    whole = rw (e, drop-map c xs i, weight-map c (drop i xs)) (sym (completions-at xs i h))
+
+    pub completions-part :
+        r (getD xs i 0) + getD es i 0 + weight (λ x. x) (take (length xs - (i + 1)) (drop (i + 1) es)) ≡ getD (completions r c xs) i 0
     completions-part =
-        rw (part-within es (length xs) i (omega arith), e, drop-map c xs i, weight-map c (drop i xs)) (sym (completions-at xs i h))
+        let l = length-take-le (length xs) es room in
+        rw (part-within es (length xs) (i + 1) (omega arith))
+        (omega (arith, whole, weight-at (λ x. x) (take (length xs) es) i (omega arith), getD-take (length xs) es i 0 h))
 
     -- The next part still holds executions when the completion is written before it.
     pub executions-part : (m : ℕ) → drop (i + 1) (take (length xs) (set es i m)) ≡ drop (i + 1) (map c xs)
@@ -149,40 +154,43 @@ module _ (r c : ℕ → ℕ) where
     pub leaves : rest k (take n (lessened k x es)) ≡ completions r c (rest k xs)
     leaves = rw (take-lessened n k x es (omega arith), e, ← q) (completions-rest xs k (omega arith))
 
-  module _ (xs es : List ℕ) (e : completions r c xs ≡ es) where
-    pub held-length : length xs ≡ length es
-    held-length = sym (completions-length xs) ∙ ap length e
+  -- Completions below m leave `best` below it.
+  best-below : (xs : List ℕ) (m : ℕ) → 0 < m → ((j : ℕ) → j < length xs → getD (completions r c xs) j 0 < m) → best r c xs < m
+  unfolding best completions
+  best-below [] m h f = h
+  best-below (x ∷ xs) m h f =
+      omega (arith, f 0 (omega arith), best-below xs m h (λ j l. f (suc j) (omega arith)))
 
-    module _ (i : ℕ) (h : i < length es) where
-      here : i < length xs
-      here = omega (arith, held-length)
+  -- The latest of the greatest completions is `best`, and its tail is `base`.
+  latest-greatest :
+      (xs : List ℕ) (k : ℕ)
+      → k < length xs
+      → 1 ≤ getD (completions r c xs) k 0
+      → ((j : ℕ) → j < k → getD (completions r c xs) j 0 ≤ getD (completions r c xs) k 0)
+      → ((j : ℕ) → k < j → j < length xs → getD (completions r c xs) j 0 < getD (completions r c xs) k 0)
+      → (getD (completions r c xs) k 0 ≡ best r c xs) × (drop k xs ≡ base r c xs)
+  unfolding best base completions
+  latest-greatest [] k h o a b = absurd (omega arith)
+  latest-greatest (x ∷ xs) zero h o a b =
+      let l = best-below xs (r x + weight c (x ∷ xs)) o (λ j q. b (suc j) (omega arith) (omega arith)) in
+      (omega arith, rw (lt-ltb _ _ l))
+  latest-greatest (x ∷ xs) (suc k) h o a b =
+      let w = latest-greatest xs k (omega arith) o (λ j q. a (suc j) (omega arith)) (λ j q l. b (suc j) (omega arith) (omega arith)) in
+      let m = a 0 (omega arith) in
+      (omega (arith, w .0), rw (le-ltb (best r c xs) (r x + weight c (x ∷ xs)) (omega (arith, w .0))) (w .1))
 
-      held : getD es i 0 ≡ r (getD xs i 0) + weight c (getD xs i 0 ∷ drop (suc i) xs)
-      held = rw (← e) (completions-at xs i here ∙ rw (drop-cons xs i 0 here))
-
-      best-at : best r c (drop i xs) ≡ max (getD es i 0) (best r c (drop (suc i) xs))
-      unfolding best
-      best-at = rw (held, drop-cons xs i 0 here)
-
-      base-at : base r c (drop i xs) ≡ cond (ltb (best r c (drop (suc i) xs)) (getD es i 0)) (drop i xs) (base r c (drop (suc i) xs))
-      unfolding base
-      base-at = rw (held, drop-cons xs i 0 here)
-
-      -- One tail more, which starts at i: it is the base subset if its completion is above that of all later ones.
-      module _ (k start : ℕ) (q : suc i ≡ k) (b : getD es start 0 ≡ best r c (drop k xs)) (s : drop start xs ≡ base r c (drop k xs)) where
-        pub passes : getD es start 0 < getD es i 0 → (getD es i 0 ≡ best r c (drop i xs)) × (drop i xs ≡ base r c (drop i xs))
-        passes l = (omega (arith, best-at, rw (← q) at b), sym (base-at ∙ rw (q, ← b, lt-ltb _ _ l)))
-
-        pub keeps : getD es i 0 ≤ getD es start 0 → (getD es start 0 ≡ best r c (drop i xs)) × (drop start xs ≡ base r c (drop i xs))
-        keeps l = (omega (arith, best-at, rw (← q) at b), sym (base-at ∙ rw (q, ← b, le-ltb _ _ l, s)))
-
-    -- The latest tail is the base subset of itself.
-    pub latest : (i : ℕ) → suc i ≡ length es → 1 ≤ getD es i 0 → (getD es i 0 ≡ best r c (drop i xs)) × (drop i xs ≡ base r c (drop i xs))
-    unfolding best base
-    latest i q l = (omega (arith, best-at i (omega arith), none), sym (base-at i (omega arith) ∙ rw (none, lt-ltb _ _ l)))
-      where
-        none : best r c (drop (suc i) xs) ≡ 0
-        none = rw (q, ← held-length, drop-length xs)
+  pub greatest-tail :
+      (xs es : List ℕ)
+      → completions r c xs ≡ es
+      → (k : ℕ)
+      → k < length es
+      → 1 ≤ getD es k 0
+      → ((j : ℕ) → j < k → getD es j 0 ≤ getD es k 0)
+      → ((j : ℕ) → k < j → j < length es → getD es j 0 < getD es k 0)
+      → (getD es k 0 ≡ best r c xs) × (drop k xs ≡ base r c xs)
+  greatest-tail xs es e k h o a b =
+      let l = sym (completions-length xs) ∙ ap length e in
+      rw e at (latest-greatest xs k (omega arith) (rw e o) (λ j q. rw e (a j q)) (λ j q w. rw e (b j q (omega arith))))
 
 -- Sub-jobs of a set that fits: their completions are positive and at most 1,128,000,000.
 module _

@@ -42,13 +42,6 @@ abbrev pub Raised : (n : ℕ) (dl z u : ℕ → ℕ) → Type 0
 Raised n dl z u = (i : ℕ) → i < n → u i + z i ≡ dl i + 1_000_000_000
 
 module _ (n : ℕ) (dl z u : ℕ → ℕ) (raised : Raised n dl z u) where
-  -- local deadlines d taken off as well
-  pub raised-slack : (d : ℕ → ℕ) (i j : ℕ) → i < n → j < n → byBound dl (λ k. z k + d k) i j ≡ byBound u d i j
-  raised-slack d i j a b =
-      let p = raised i a in
-      let q = raised j b in
-      same-ltb (dl i + (z j + d j)) (dl j + (z i + d i)) (u i + d j) (u j + d i) (λ h. omega arith) (λ h. omega arith)
-
   raised-bound : (i j : ℕ) → i < n → j < n → byBound dl z i j ≡ byBound u (λ k. 0) i j
   raised-bound i j a b =
       let p = raised i a in

@@ -15,24 +15,20 @@ pub(crate) fn index(place: u32) -> usize
     place as usize
 }
 
-// Whether p stands behind q when the base sub-job is taken: the tie rule, here and nowhere else in the code.
-fn lower(bounds: &[u32], p: usize, q: usize) -> bool
-    requires { ⌜ (p < length (now bounds)) × (q < length (now bounds)) ⌝ }
-    ensures { λ r. ⌜ r ≡ lower (λ i. getD (now (bounds .entry)) i 0) (λ i. 0) p q ⌝ }
-{
-    (bounds[p] < bounds[q]) | (!(bounds[q] < bounds[p]) & (p < q))
-}
-
-// Where the base sub-job stands among the sub-jobs of the base subset, which are given by their places.
+// Where the base sub-job stands among the sub-jobs of the base subset, which are given by their places. The tie rule of
+// equal bounds stands here and nowhere else in the code.
 pub(crate) fn base_job(order: &[u32], bounds: &[u32]) -> usize
     requires { ⌜ (0 < length (now order)) × Every (λ p. p < length (now bounds)) (now order) ⌝ }
     ensures { λ k. ⌜ (k < length (now (order .entry))) × (choose (reversed (lower (λ i. getD (now (bounds .entry)) i 0) (λ i. 0))) (now (order .entry)) ≡ some (getD (now (order .entry)) k 0)) ⌝ }
 {
     let mut at = 0;
+    let mut top = bounds[index(order[0])];
     let mut i = 1;
     while i < order.len() {
-        if lower(bounds, index(order[at]), index(order[i])) {
+        let bound = bounds[index(order[i])];
+        if (top < bound) || ((top == bound) && (order[at] < order[i])) {
             at = i;
+            top = bound;
         }
         i += 1;
     }

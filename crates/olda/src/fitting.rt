@@ -2,13 +2,14 @@
 ghost use Prim.Native.Nat.{_≤_};
 ghost use mathlib.Core.Path.{_≡_};
 ghost use lib.ListN.{length, take, replicate};
-ghost use Rattle.olda.specs.Fitting.{Fits, Assigned};
+ghost use Rattle.olda.specs.Fitting.{Fits, Settled, Assigned};
 use crate::Answer;
 use crate::placing::Placing;
 use crate::placing::method;
 use crate::reporting::raise;
 use crate::reporting::report;
 use crate::reporting::signed;
+use subjobs::Judgement;
 use subjobs::Reason;
 
 // Writes the first numbers of a list over the whole of another.
@@ -23,9 +24,9 @@ fn copy(from: &[u32], to: &mut [u32])
     }
 }
 
-// The assignment, with room lent for the raised bounds, the local deadlines, the places in release order and the
-// completions of their tails; that for the deadlines holds zeros. The result list is written when all have their deadlines, and not before.
-fn assign_in(
+// The steps, with room lent for the raised bounds, the local deadlines, the places in release order and the completions
+// of their tails; that for the deadlines holds zeros. The result list is written when all have their deadlines, and not before.
+fn place_in(
     releases: &[u32],
     executions: &[u32],
     deadlines: &[u32],
@@ -35,18 +36,18 @@ fn assign_in(
     local: &mut [u32],
     order: &mut [u32],
     ends: &mut [u32],
-) -> Answer
+) -> Judgement
     requires { ⌜ Fits (now releases) (now executions) (now deadlines) (now criticals) × (length (now out) ≡ length (now releases)) × (length (now releases) ≤ length (now bounds)) × (length (now releases) ≤ length (now local)) × (length (now releases) ≤ length (now order)) × (length (now releases) ≤ length (now ends)) × (now local ≡ replicate (length (now local)) 0) ⌝ }
-    ensures { λ r. ⌜ Assigned (now (releases .entry)) (now (executions .entry)) (now (deadlines .entry)) (now (criticals .entry)) (now (out .entry)) r (now (out .exit)) ⌝ }
+    ensures { λ r. ⌜ Settled (now (releases .entry)) (now (executions .entry)) (now (deadlines .entry)) (now (criticals .entry)) (now (out .entry)) r (now (out .exit)) ⌝ }
 {
     raise(deadlines, criticals, bounds);
     let placing = method(releases, executions, bounds, order, ends, local);
     match placing {
         Placing::Placed => {
             copy(local, out);
-            report(bounds, out)
+            Judgement::Passed
         }
-        Placing::Stuck { place, completion } => Answer::Refused(Reason::Late {
+        Placing::Stuck { place, completion } => Judgement::Refused(Reason::Late {
             place,
             completion,
             bound: signed(bounds[place]),
@@ -54,22 +55,22 @@ fn assign_in(
     }
 }
 
-// The same with the room made here, for up to 16 sub-jobs: less of it is cleared before each call.
-fn assign_few(
+// The same with the room made here, for up to 8 sub-jobs: less of it is cleared before each call.
+fn place_few(
     releases: &[u32],
     executions: &[u32],
     deadlines: &[u32],
     criticals: &[u32],
     out: &mut [u32],
-) -> Answer
-    requires { ⌜ Fits (now releases) (now executions) (now deadlines) (now criticals) × (length (now out) ≡ length (now releases)) × (length (now releases) ≤ 16) ⌝ }
-    ensures { λ r. ⌜ Assigned (now (releases .entry)) (now (executions .entry)) (now (deadlines .entry)) (now (criticals .entry)) (now (out .entry)) r (now (out .exit)) ⌝ }
+) -> Judgement
+    requires { ⌜ Fits (now releases) (now executions) (now deadlines) (now criticals) × (length (now out) ≡ length (now releases)) × (length (now releases) ≤ 8) ⌝ }
+    ensures { λ r. ⌜ Settled (now (releases .entry)) (now (executions .entry)) (now (deadlines .entry)) (now (criticals .entry)) (now (out .entry)) r (now (out .exit)) ⌝ }
 {
-    let mut bounds = [0u32; 16];
-    let mut local = [0u32; 16];
-    let mut order = [0u32; 16];
-    let mut ends = [0u32; 16];
-    assign_in(
+    let mut bounds = [0u32; 8];
+    let mut local = [0u32; 8];
+    let mut order = [0u32; 8];
+    let mut ends = [0u32; 8];
+    place_in(
         releases,
         executions,
         deadlines,
@@ -83,21 +84,21 @@ fn assign_few(
 }
 
 // The same for up to 128.
-fn assign_many(
+fn place_many(
     releases: &[u32],
     executions: &[u32],
     deadlines: &[u32],
     criticals: &[u32],
     out: &mut [u32],
-) -> Answer
+) -> Judgement
     requires { ⌜ Fits (now releases) (now executions) (now deadlines) (now criticals) × (length (now out) ≡ length (now releases)) × (length (now releases) ≤ 128) ⌝ }
-    ensures { λ r. ⌜ Assigned (now (releases .entry)) (now (executions .entry)) (now (deadlines .entry)) (now (criticals .entry)) (now (out .entry)) r (now (out .exit)) ⌝ }
+    ensures { λ r. ⌜ Settled (now (releases .entry)) (now (executions .entry)) (now (deadlines .entry)) (now (criticals .entry)) (now (out .entry)) r (now (out .exit)) ⌝ }
 {
     let mut bounds = [0u32; 128];
     let mut local = [0u32; 128];
     let mut order = [0u32; 128];
     let mut ends = [0u32; 128];
-    assign_in(
+    place_in(
         releases,
         executions,
         deadlines,
@@ -110,7 +111,25 @@ fn assign_many(
     )
 }
 
-// The assignment of a set that fits.
+// The same in the room that the set needs.
+fn place(
+    releases: &[u32],
+    executions: &[u32],
+    deadlines: &[u32],
+    criticals: &[u32],
+    out: &mut [u32],
+) -> Judgement
+    requires { ⌜ Fits (now releases) (now executions) (now deadlines) (now criticals) × (length (now out) ≡ length (now releases)) ⌝ }
+    ensures { λ r. ⌜ Settled (now (releases .entry)) (now (executions .entry)) (now (deadlines .entry)) (now (criticals .entry)) (now (out .entry)) r (now (out .exit)) ⌝ }
+{
+    if releases.len() <= 8 {
+        place_few(releases, executions, deadlines, criticals, out)
+    } else {
+        place_many(releases, executions, deadlines, criticals, out)
+    }
+}
+
+// The assignment of a set that fits: the steps, and the report if all have their deadlines.
 pub(crate) fn assign_fit(
     releases: &[u32],
     executions: &[u32],
@@ -121,9 +140,9 @@ pub(crate) fn assign_fit(
     requires { ⌜ Fits (now releases) (now executions) (now deadlines) (now criticals) × (length (now out) ≡ length (now releases)) ⌝ }
     ensures { λ r. ⌜ Assigned (now (releases .entry)) (now (executions .entry)) (now (deadlines .entry)) (now (criticals .entry)) (now (out .entry)) r (now (out .exit)) ⌝ }
 {
-    if releases.len() <= 16 {
-        assign_few(releases, executions, deadlines, criticals, out)
-    } else {
-        assign_many(releases, executions, deadlines, criticals, out)
+    let placed = place(releases, executions, deadlines, criticals, out);
+    match placed {
+        Judgement::Refused(reason) => Answer::Refused(reason),
+        Judgement::Passed => report(deadlines, criticals, out),
     }
 }

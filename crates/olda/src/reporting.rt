@@ -1,12 +1,13 @@
 // Upper bounds and what is reported of an accepted set.
 ghost use Prim.Native.Nat.{ℕ, _+_, _<_, _≤_};
 ghost use mathlib.Core.Path.{_≡_};
+ghost use mathlib.Core.List.{List};
 ghost use mathlib.Core.Option.{some};
 ghost use lib.IntN.{subℕ};
 ghost use lib.ListN.{length, getD};
 ghost use Rattle.lists.specs.Places.{places};
 ghost use Rattle.lists.specs.Order.{choose};
-ghost use Rattle.subjobs.specs.Sets.{Subjobs, size, deadline, critical, byBound};
+ghost use Rattle.subjobs.specs.Sets.{subjobs, byBound};
 ghost use Rattle.olda.specs.Answers.{report};
 use crate::Answer;
 use crate::Report;
@@ -45,23 +46,32 @@ pub(crate) fn signed(bound: u32) -> i64
     difference(bound, 1_000_000_000)
 }
 
-// Whether the slack at i is below that at j. Slacks are compared by cross sums.
-fn tighter(bounds: &[u32], local: &[u32], i: usize, j: usize) -> bool
-    requires { ⌜ (length (now local) ≤ length (now bounds)) × (i < length (now local)) × (j < length (now local)) ⌝ }
-    ensures { λ r. ⌜ r ≡ byBound (λ k. getD (now (bounds .entry)) k 0) (λ k. getD (now (local .entry)) k 0) i j ⌝ }
+// How far a sub-job reaches: its local deadline plus its critical time. The slack is what its deadline leaves of that.
+fn reach(criticals: &[u32], local: &[u32], i: usize) -> u64
+    requires { ⌜ (i < length (now criticals)) × (i < length (now local)) ⌝ }
+    ensures { λ r. ⌜ (r ≡ getD (now (criticals .entry)) i 0 + getD (now (local .entry)) i 0) × (r < 8589934592) ⌝ }
 {
-    wide(bounds[i]) + wide(local[j]) < wide(bounds[j]) + wide(local[i])
+    wide(criticals[i]) + wide(local[i])
+}
+
+// Whether the slack at i is below that at j. Slacks are compared by cross sums.
+fn tighter(deadlines: &[u32], criticals: &[u32], local: &[u32], i: usize, j: usize) -> bool
+    requires { ⌜ (length (now local) ≤ length (now deadlines)) × (length (now local) ≤ length (now criticals)) × (i < length (now local)) × (j < length (now local)) ⌝ }
+    ensures { λ r. ⌜ r ≡ byBound (λ k. getD (now (deadlines .entry)) k 0) (λ k. getD (now (criticals .entry)) k 0 + getD (now (local .entry)) k 0) i j ⌝ }
+{
+    wide(deadlines[i]) + reach(criticals, local, j)
+        < wide(deadlines[j]) + reach(criticals, local, i)
 }
 
 // The smallest place of the least slack.
-fn least_slack(bounds: &[u32], local: &[u32]) -> usize
-    requires { ⌜ (0 < length (now local)) × (length (now local) ≤ length (now bounds)) ⌝ }
-    ensures { λ p. ⌜ (p < length (now (local .entry))) × (choose (byBound (λ k. getD (now (bounds .entry)) k 0) (λ k. getD (now (local .entry)) k 0)) (places (length (now (local .entry)))) ≡ some p) ⌝ }
+fn least_slack(deadlines: &[u32], criticals: &[u32], local: &[u32]) -> usize
+    requires { ⌜ (0 < length (now local)) × (length (now local) ≤ length (now deadlines)) × (length (now local) ≤ length (now criticals)) ⌝ }
+    ensures { λ p. ⌜ (p < length (now (local .entry))) × (choose (byBound (λ k. getD (now (deadlines .entry)) k 0) (λ k. getD (now (criticals .entry)) k 0 + getD (now (local .entry)) k 0)) (places (length (now (local .entry)))) ≡ some p) ⌝ }
 {
     let mut p = 0;
     let mut i = 1;
     while i < local.len() {
-        if tighter(bounds, local, i, p) {
+        if tighter(deadlines, criticals, local, i, p) {
             p = i;
         }
         i += 1;
@@ -69,15 +79,15 @@ fn least_slack(bounds: &[u32], local: &[u32]) -> usize
     p
 }
 
-// The report of an accepted set, whichever has these raised bounds and got these local deadlines.
-pub(crate) fn report(bounds: &[u32], local: &[u32]) -> Answer
-    requires { ⌜ length (now local) ≤ length (now bounds) ⌝ }
-    ensures { λ r. ⌜ ((s : Subjobs) → size s ≡ length (now (local .entry)) → ((i : ℕ) → i < size s → getD (now (bounds .entry)) i 0 + critical s i ≡ deadline s i + 1_000_000_000) → r ≡ report s (λ i. getD (now (local .entry)) i 0)) ⌝ }
+// The report of an accepted set that got these local deadlines. Its other lists have no say.
+pub(crate) fn report(deadlines: &[u32], criticals: &[u32], local: &[u32]) -> Answer
+    requires { ⌜ (length (now local) ≤ length (now deadlines)) × (length (now local) ≤ length (now criticals)) ⌝ }
+    ensures { λ r. ⌜ ((js ks rs cs : List ℕ) → length js ≡ length (now (local .entry)) → r ≡ report (subjobs js ks rs cs (now (deadlines .entry)) (now (criticals .entry))) (λ i. getD (now (local .entry)) i 0)) ⌝ }
 {
     if local.len() == 0 {
         return Answer::Nothing;
     }
-    let p = least_slack(bounds, local);
-    let slack = difference(bounds[p], 1_000_000_000 + wide(local[p]));
+    let p = least_slack(deadlines, criticals, local);
+    let slack = difference(deadlines[p], reach(criticals, local, p));
     Answer::Placed(Report { slack, place: p })
 }

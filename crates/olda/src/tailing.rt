@@ -21,12 +21,12 @@ fn executions_in_order(order: &[u32], executions: &[u32], ends: &mut [u32])
     }
 }
 
-// The completion of one tail: the release at which it starts plus the sum of its executions.
-fn completion(release: u32, executions: &[u32]) -> u32
-    requires { ⌜ release + weight (λ c. c) (now executions) < 4294967296 ⌝ }
-    ensures { λ m. ⌜ m ≡ release + weight (λ c. c) (now (executions .entry)) ⌝ }
+// The completion of one tail: the earliest end of its first sub-job plus the executions of those behind it.
+fn completion(first: u32, executions: &[u32]) -> u32
+    requires { ⌜ first + weight (λ c. c) (now executions) < 4294967296 ⌝ }
+    ensures { λ m. ⌜ m ≡ first + weight (λ c. c) (now (executions .entry)) ⌝ }
 {
-    let mut m = release;
+    let mut m = first;
     let mut i = 0;
     while i < executions.len() {
         m += executions[i];
@@ -46,7 +46,7 @@ pub(crate) fn completions(order: &[u32], releases: &[u32], executions: &[u32], e
     let n = order.len();
     let mut i = 0;
     while i < n {
-        ends[i] = completion(releases[index(order[i])], &ends[i..n]);
+        ends[i] = completion(releases[index(order[i])] + ends[i], &ends[i + 1..n]);
         i += 1;
     }
 }
@@ -57,13 +57,13 @@ pub(crate) fn base_tail(ends: &[u32]) -> usize
     requires { ⌜ (0 < length (now ends)) × Every (λ m. 1 ≤ m) (now ends) ⌝ }
     ensures { λ k. ⌜ (k < length (now (ends .entry))) × ((r c : ℕ → ℕ) (xs : List ℕ) → completions r c xs ≡ now (ends .entry) → (getD (now (ends .entry)) k 0 ≡ best r c xs) × (drop k xs ≡ base r c xs)) ⌝ }
 {
-    let mut start = ends.len() - 1;
-    let mut i = start;
-    while 0 < i {
-        i -= 1;
-        if ends[start] < ends[i] {
+    let mut start = 0;
+    let mut i = 1;
+    while i < ends.len() {
+        if ends[start] <= ends[i] {
             start = i;
         }
+        i += 1;
     }
     start
 }

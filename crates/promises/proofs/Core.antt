@@ -12,13 +12,13 @@ use Rattle.subjobs.specs.declared.Judgement.the-variants.{Passed}
 use Rattle.subjobs.specs.Sets.{Subjobs, size, job, subtask, release, execution}
 use Rattle.subjobs.specs.Judging.{judgement}
 use Rattle.subjobs.proofs.Fit.{fit}
-use Rattle.edf.specs.Runs.{sooner}
+use Rattle.edf.specs.Answers.{due, servedBefore}
 use Rattle.edf.proofs.Service.{served-most}
 use Rattle.edf.proofs.Ticks.{finish-at}
 use Rattle.edf.proofs.Turns.{below}
 use Rattle.edf.proofs.Keeps.{kept, met}
 use Rattle.checker.proofs.Accepts.{accepts, unmet, missed, seven-finishes}
-use Rattle.promises.specs.Core.{Passes, due, KeepsDeadlines, NeverMore, ChecksExactly, SevenOnTheCore, NamesUnmet, NamesMissed}
+use Rattle.promises.specs.Core.{Passes, KeepsDeadlines, NeverMore, ChecksExactly, SevenOnTheCore, NamesUnmet, NamesMissed}
 
 pub keeps-deadlines : KeepsDeadlines
 keeps-deadlines s ds asks passes six seven i b =
@@ -34,7 +34,7 @@ keeps-deadlines s ds asks passes six seven i b =
 
 pub never-more : NeverMore
 never-more s ds asks passes t i =
-    served-most (release s) (due s asks) (sooner (λ j. getD ds j 0) (job s) (subtask s)) (places (size s))
+    served-most (release s) (due s asks) (servedBefore s ds) (places (size s))
     (below (size s) (fit s true passes .few)) t i
 
 -- The length of the proposed deadlines is the one further list.

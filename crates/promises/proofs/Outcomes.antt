@@ -9,11 +9,10 @@ use lib.Dec.{eqb}
 use lib.ListN.{length, getD}
 use Rattle.subjobs.specs.declared.Reason.{Reason}
 use Rattle.subjobs.specs.declared.Judgement.{Judgement}
-use Rattle.subjobs.specs.Sets.{Subjobs, size, release, execution, job, subtask}
+use Rattle.subjobs.specs.Sets.{Subjobs, size, release}
 use Rattle.subjobs.specs.Judging.{judgement, ifPassed}
 use Rattle.olda.specs.declared.Answer.the-variants.{Refused, Placed}
 use Rattle.olda.specs.Method.{Outcome, placed, stuck, method}
-use Rattle.edf.specs.Runs.{owed, sooner}
 use Rattle.edf.specs.declared.Answer.the-variants.{Ran}
 use Rattle.edf.specs.declared.Totals.{Totals}
 use Rattle.lists.proofs.Cases.{both}
@@ -86,7 +85,7 @@ writes-all = (
   λ s ds asks fs old t r e l. (
     rw (e, l, e),
     rw e
-        (run-length (release s) (owed (execution s) (λ i. getD asks i 0)) (sooner (λ i. getD ds i 0) (job s) (subtask s)) (size s)
+        (run-length (release s) (edf.due s asks) (edf.servedBefore s ds) (size s)
         ∙ sym (ran-length s ds asks (length fs) t r e)),
   ),
   door-writes-all,

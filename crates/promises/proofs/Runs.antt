@@ -5,17 +5,16 @@ use mathlib.Core.Logic.{_↔_}
 use mathlib.Core.Path.{_≡_}
 use native.Mathlib.Omega.{arith}
 use lib.Dec.{ltb, eqb}
-use lib.ListN.{getD}
 use Rattle.lists.specs.Places.{places}
 use Rattle.lists.proofs.Cases.{test, tests}
 use Rattle.lists.proofs.Members.{in-places, nodup-from}
-use Rattle.subjobs.specs.Sets.{size, job, subtask, release}
+use Rattle.subjobs.specs.Sets.{size, release}
 use Rattle.subjobs.proofs.Fit.{fit}
-use Rattle.edf.specs.Runs.{sooner}
+use Rattle.edf.specs.Answers.{due, servedBefore}
 use Rattle.edf.proofs.Finishes.{finish-by}
 use Rattle.edf.proofs.Turns.{below}
 use Rattle.edf.proofs.Ticks.{finish-at, run-finish, finish-nothing, run-busy, run-ticks, two-runs}
-use Rattle.promises.specs.Core.{due, served, finish}
+use Rattle.promises.specs.Core.{served, finish}
 use Rattle.promises.proofs.Core.{never-more}
 use Rattle.promises.specs.Runs.{FinishIsLastTick, ServedByFinish, OwedNothing, BusyIsOwed, TicksAreTheEnd, RunsAddUp}
 
@@ -30,7 +29,7 @@ served-by-finish s ds asks p i h =
     let f = finish-at s ds asks i h in
     let most : (t : ℕ) → served s ds asks t i ≤ due s asks i = λ t. never-more s ds asks p t i in
     let by : 0 < due s asks i → (t : ℕ) → (finish s ds asks i ≤ t) ↔ (served s ds asks t i ≡ due s asks i) =
-    λ l. rw f (finish-by (release s) (due s asks) (sooner (λ j. getD ds j 0) (job s) (subtask s)) (places (size s)) (below (size s) few) (nodup-from 0 (size s)) i (in-places (size s) i h) l)
+    λ l. rw f (finish-by (release s) (due s asks) (servedBefore s ds) (places (size s)) (below (size s) few) (nodup-from 0 (size s)) i (in-places (size s) i h) l)
     in (
       test (eqb (due s asks i) 0)
           (λ z. omega (tests, most (finish s ds asks i)))

@@ -7,22 +7,19 @@
 --   MeetsSeven s ds      == they meet (7)
 --   served s ds asks t i == the ticks that the core has served to place i by moment t
 --   finish s ds asks i   == the finish moment of place i
---   due s asks i         == the smaller of its ask and its execution
 use Prim.Native.Nat.{ℕ, _≤_, _<_}
 use mathlib.Core.Bool.{true}
 use mathlib.Core.List.{List}
 use mathlib.Core.Logic.{_↔_}
 use mathlib.Core.Path.{_≡_}
 use lib.ListN.{length, getD}
-use Rattle.lists.specs.Places.{places}
 use Rattle.subjobs.specs.declared.Judgement.the-variants.{Passed}
 use Rattle.subjobs.specs.declared.Reason.the-variants.{Unmet, Missed}
-use Rattle.subjobs.specs.Sets.{Subjobs, size, job, subtask, release, execution, deadline, critical}
+use Rattle.subjobs.specs.Sets.{Subjobs, size, release, execution, deadline, critical}
 use Rattle.subjobs.specs.Judging.{judgement}
 use Rattle.subjobs.specs.Conditions.{SixAt, Six, Seven}
-use Rattle.edf.specs.Core.{after}
-use Rattle.edf.specs.Runs.{sooner, owed}
 use Rattle.edf.specs.Answers as edf
+use Rattle.edf.specs.Answers.{due, coreAt}
 use Rattle.checker.specs.declared.Answer.the-variants.{Accepted, Refused}
 use Rattle.checker.specs.Answers as checker
 
@@ -39,12 +36,8 @@ MeetsSix s ds = Six (release s) (execution s) (deadline s) (critical s) (λ i. g
 abbrev pub MeetsSeven : Subjobs → List ℕ → Type 0
 MeetsSeven s ds = Seven (release s) (execution s) (λ i. getD ds i 0) (size s)
 
-abbrev pub due : Subjobs → List ℕ → ℕ → ℕ
-due s asks = owed (execution s) (λ i. getD asks i 0)
-
 abbrev pub served : Subjobs → List ℕ → List ℕ → ℕ → ℕ → ℕ
-served s ds asks t i =
-    getD (after (release s) (due s asks) (sooner (λ j. getD ds j 0) (job s) (subtask s)) (places (size s)) t .served) i 0
+served s ds asks t i = getD (coreAt s ds asks t .served) i 0
 
 abbrev pub finish : Subjobs → List ℕ → List ℕ → ℕ → ℕ
 finish s ds asks i = getD (edf.run s ds asks .finishes) i 0

@@ -12,11 +12,11 @@ use mathlib.Core.Path.{_≡_}
 use lib.ListN.{length, getD}
 use Rattle.subjobs.specs.Sets.{Subjobs, size, execution}
 use Rattle.olda.specs.Answers.{answer, results}
-use Rattle.edf.specs.Answers.{run}
+use Rattle.edf.specs.Answers.{run, due}
 use Rattle.checker.specs.declared.Answer.the-variants.{Accepted}
 use Rattle.checker.specs.Answers as checker
 use Rattle.promises.specs.Assignment.{accepted, localDeadline}
-use Rattle.promises.specs.Core.{served, finish, due}
+use Rattle.promises.specs.Core.{served, finish}
 
 -- Of an accepted set with its deadlines: whatever each sub-job asks, cut off at its execution time, each has got the
 -- smaller of the two by its deadline, and at no moment more; if all ask for all, each ends exactly on its deadline.

@@ -12,21 +12,18 @@ use mathlib.Core.List.{List}
 use mathlib.Core.Logic.{_≢_}
 use mathlib.Core.Option.{Option, some}
 use mathlib.Core.Path.{_≡_}
-use lib.ListN.{getD}
 use Rattle.lists.specs.Places.{places, weight}
-use Rattle.subjobs.specs.Sets.{Subjobs, size, job, subtask, release}
+use Rattle.subjobs.specs.Sets.{Subjobs, size, release}
 use Rattle.edf.specs.declared.Answer.the-variants.{Ran}
 use Rattle.edf.specs.declared.Report.{Report}
 use Rattle.edf.specs.declared.Totals.{Totals}
-use Rattle.edf.specs.Core.{pick, after}
-use Rattle.edf.specs.Runs.{sooner}
-use Rattle.edf.specs.Answers.{run, answer, totals}
-use Rattle.promises.specs.Core.{Passes, due, served, finish}
+use Rattle.edf.specs.Core.{pick}
+use Rattle.edf.specs.Answers.{due, servedBefore, coreAt, run, answer, totals}
+use Rattle.promises.specs.Core.{Passes, served, finish}
 
 abbrev pub turn : Subjobs → List ℕ → List ℕ → ℕ → Option ℕ
 turn s ds asks t =
-    pick (release s) (due s asks) (sooner (λ j. getD ds j 0) (job s) (subtask s)) (places (size s)) t
-    (after (release s) (due s asks) (sooner (λ j. getD ds j 0) (job s) (subtask s)) (places (size s)) t .served)
+    pick (release s) (due s asks) (servedBefore s ds) (places (size s)) t (coreAt s ds asks t .served)
 
 -- The finish of one that is owed something is the end of the last tick served to it: that tick is served to it, and no
 -- later one is.

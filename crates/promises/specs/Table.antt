@@ -31,12 +31,12 @@ releaseOf (sub r c u) = r
 abbrev pub executionOf : Subjob → ℕ
 executionOf (sub r c u) = c
 
-abbrev pub boundOf : Subjob → ℕ
-boundOf (sub r c u) = u
+abbrev pub upperOf : Subjob → ℕ
+upperOf (sub r c u) = u
 
 abbrev pub setOf : List Subjob → Subjobs
 setOf js =
-    subjobs (from 1 (length js)) (replicate (length js) 1) (map releaseOf js) (map executionOf js) (map boundOf js)
+    subjobs (from 1 (length js)) (replicate (length js) 1) (map releaseOf js) (map executionOf js) (map upperOf js)
     (replicate (length js) 0)
 
 pub data Row : Type 0 where
@@ -71,8 +71,8 @@ Holds [] = Unit {0}
 Holds (x ∷ xs) = HoldsAt x × Holds xs
 
 -- 0, least slack, its place
-abbrev pub accepted : ℕ → ℕ → List ℤ
-accepted slack place = pos 0 ∷ pos slack ∷ pos place ∷ []
+abbrev pub leastSlack : ℕ → ℕ → List ℤ
+leastSlack slack place = pos 0 ∷ pos slack ∷ pos place ∷ []
 
 -- 0, the end of the run
 abbrev pub ended : ℕ → List ℤ
@@ -96,22 +96,22 @@ table =
     -- P1 empty set: nothing to place
     assigned (setOf []) (pos 0 ∷ []) []
     -- P2
-    ∷ assigned (setOf (sub 0 1 1 ∷ [])) (accepted 0 0) (1 ∷ [])
+    ∷ assigned (setOf (sub 0 1 1 ∷ [])) (leastSlack 0 0) (1 ∷ [])
     -- P3
     ∷ assigned (setOf (sub 0 2 1 ∷ [])) (refused 5 0 2 (pos 1)) (99 ∷ [])
     -- P4
-    ∷ assigned p4 (accepted 28 3) (2 ∷ 9 ∷ 8 ∷ 7 ∷ [])
+    ∷ assigned p4 (leastSlack 28 3) (2 ∷ 9 ∷ 8 ∷ 7 ∷ [])
     ∷ based p4 (1 ∷ 2 ∷ 3 ∷ []) 9
     -- P5
-    ∷ assigned p5 (accepted 3 1) (4 ∷ 7 ∷ [])
+    ∷ assigned p5 (leastSlack 3 1) (4 ∷ 7 ∷ [])
     -- P6, of jobs 5 and 2
-    ∷ assigned (subjobs (5 ∷ 2 ∷ []) (1 ∷ 1 ∷ []) (0 ∷ 0 ∷ []) (2 ∷ 3 ∷ []) (9 ∷ 9 ∷ []) (0 ∷ 0 ∷ [])) (accepted 4 1) (2 ∷ 5 ∷ [])
+    ∷ assigned (subjobs (5 ∷ 2 ∷ []) (1 ∷ 1 ∷ []) (0 ∷ 0 ∷ []) (2 ∷ 3 ∷ []) (9 ∷ 9 ∷ []) (0 ∷ 0 ∷ [])) (leastSlack 4 1) (2 ∷ 5 ∷ [])
     -- P7, with deadline 3 and critical time 5
     ∷ assigned (subjobs (1 ∷ []) (1 ∷ []) (0 ∷ []) (1 ∷ []) (3 ∷ []) (5 ∷ [])) (refused 5 0 1 (negℤ (pos 2))) (99 ∷ [])
     -- P8
     ∷ assigned p8 (refused 5 0 4 (pos 3)) (99 ∷ 99 ∷ [])
     -- P9
-    ∷ assigned (setOf (sub 1_000_000_000 1_000_000 2_000_000_000 ∷ [])) (accepted 999_000_000 0) (1_001_000_000 ∷ [])
+    ∷ assigned (setOf (sub 1_000_000_000 1_000_000 2_000_000_000 ∷ [])) (leastSlack 999_000_000 0) (1_001_000_000 ∷ [])
     -- P10
     ∷ ran p4 (2 ∷ 9 ∷ 8 ∷ 7 ∷ []) (2 ∷ 1 ∷ 0 ∷ 5 ∷ []) (ended 7) (2 ∷ 5 ∷ 5 ∷ 7 ∷ []) 4 3
     -- P11

@@ -86,22 +86,22 @@ fn seen_earlier(jobs: &[u32], subtasks: &[u32], place: usize) -> bool
     requires { ⌜ (length (now subtasks) ≡ length (now jobs)) × (place < length (now jobs)) ⌝ }
     ensures { λ r. ⌜ r ≡ seenEarlier (λ i. getD (now (jobs .entry)) i 0) (λ i. getD (now (subtasks .entry)) i 0) place ⌝ }
 {
-    let mut j = 0;
-    while j < place {
-        if (jobs[j] == jobs[place]) & (subtasks[j] == subtasks[place]) {
+    let mut j = place;
+    while 0 < j {
+        j -= 1;
+        if (subtasks[j] == subtasks[place]) && (jobs[j] == jobs[place]) {
             return true;
         }
-        j += 1;
     }
     false
 }
 
-// The smallest place whose pair stands at an earlier place.
+// The smallest place whose pair stands at an earlier place. Before place 0 there is none.
 pub(crate) fn pairs(jobs: &[u32], subtasks: &[u32]) -> Judgement
     requires { ⌜ length (now subtasks) ≡ length (now jobs) ⌝ }
     ensures { λ r. ⌜ r ≡ pairs (λ i. getD (now (jobs .entry)) i 0) (λ i. getD (now (subtasks .entry)) i 0) (length (now (jobs .entry))) ⌝ }
 {
-    let mut i = 0;
+    let mut i = 1;
     while i < jobs.len() {
         if seen_earlier(jobs, subtasks, i) {
             return Judgement::Refused(Reason::Pair { place: i });

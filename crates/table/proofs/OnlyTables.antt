@@ -22,7 +22,7 @@ use Rattle.table.specs.declared.reading.End.the-variants as end
 use Rattle.table.specs.declared.reading.Row.{Row}
 use Rattle.table.specs.declared.reading.Line.{Line}
 use Rattle.table.specs.declared.reading.Line.the-variants as line
-use Rattle.table.specs.Reading.{byteAt, Run, digits, number, numberAt, followed, fieldAt, partedAt, lineEnd, onCell, onEnd, onLine, recordAt, Parsed, records, refused, recordsFrom, header, starts, afterHeader, read}
+use Rattle.table.specs.Reading.{byteAt, Digits, digits, number, numberAt, followed, fieldAt, partedAt, lineEnd, onCell, onEnd, onLine, recordAt, Parsed, records, refused, recordsFrom, header, starts, afterHeader, read}
 use Rattle.table.specs.Format as format
 use Rattle.table.specs.Format.{Digit, valueFrom, Number, Field, bare, quoted, Lines, ends, closes}
 use Rattle.table.proofs.Scanning.{digit}
@@ -48,7 +48,7 @@ digits-only v n i (b ∷ bs) =
     (b ∷ q .0, q .1, ap (λ (l : List ℕ). b ∷ l) (q .2), (digit b e, q .3), rw (e, q .4, c, j)))
 
 number-told :
-    (r : Run) (v j : ℕ)
+    (r : Digits) (v j : ℕ)
     → number r ≡ cell.Number v j
     → (1 ≤ r .count) × (r .count ≤ 10) × (r .value ≤ 4_294_967_295) × (r .value ≡ v) × (r .end ≡ j)
 unfolding number

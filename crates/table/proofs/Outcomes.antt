@@ -9,7 +9,7 @@ use Rattle.lists.specs.Places.{places}
 use Rattle.lists.proofs.Members.{in-places}
 use Rattle.subjobs.specs.declared.Judgement.{Judgement}
 use Rattle.subjobs.specs.declared.Judgement.the-variants as judgement
-use Rattle.subjobs.specs.Sets.{Subjobs, size, job, subtask, release, execution, deadline, critical}
+use Rattle.subjobs.specs.Sets.{Subjobs, size, release, execution, deadline, critical}
 use Rattle.subjobs.specs.Judging.{judgement as judged, ifPassed}
 use Rattle.subjobs.proofs.Fit.{Fit, fit, refused-passed}
 use Rattle.olda.specs.declared.Answer.the-variants as olda-answer
@@ -18,7 +18,6 @@ use Rattle.olda.specs.Answers as olda
 use Rattle.olda.proofs.Obeys.{method-placed}
 use Rattle.olda.proofs.Accepted.{accepted-six}
 use Rattle.olda.proofs.Results.{passed-ones}
-use Rattle.edf.specs.Runs.{sooner, owed}
 use Rattle.edf.specs.Answers as edf
 use Rattle.edf.proofs.Finishes as edf-finishes
 use Rattle.edf.proofs.Fresh.{fresh-finishes}
@@ -51,8 +50,7 @@ module _ (s : Subjobs) (ds : List ℕ) (w : Sound s ds) where
 
   pub run-length : length (edf.run s ds (s .executions) .finishes) ≡ size s
   run-length =
-      edf-finishes.run-length (release s) (owed (execution s) (λ i. getD (s .executions) i 0))
-      (sooner (λ i. getD ds i 0) (job s) (subtask s)) (size s)
+      edf-finishes.run-length (release s) (edf.due s (s .executions)) (edf.servedBefore s ds) (size s)
 
 -- What the assignment accepts is sound.
 module _ (s : Subjobs) (out : List ℕ) where

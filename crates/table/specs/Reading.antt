@@ -30,12 +30,12 @@ abbrev pub byteAt : List ℕ → ℕ → ℕ
 byteAt text i = getD text i 0
 
 -- A run of decimal digits: its value, how many digits it has, and where it ends.
-pub record Run : Type 0 where
+pub record Digits : Type 0 where
   pub value : ℕ
   pub count : ℕ
   pub end : ℕ
 
-unfoldable pub digits : ℕ → ℕ → ℕ → List ℕ → Run
+unfoldable pub digits : ℕ → ℕ → ℕ → List ℕ → Digits
 digits v n i [] = record { value = v; count = n; end = i }
 digits v n i (b ∷ bs) =
     cond (ltb b 48 || ltb 57 b)
@@ -43,7 +43,7 @@ digits v n i (b ∷ bs) =
     (digits (v * 10 + (b - 48)) (n + 1) (i + 1) bs)
 
 -- 1 to 10 decimal digits, leading zeros allowed, of value at most 4,294,967,295
-unfoldable pub number : Run → Cell
+unfoldable pub number : Digits → Cell
 number r =
     cond (leb 1 (r .count) && leb (r .count) 10 && leb (r .value) 4_294_967_295)
     (cell.Number (r .value) (r .end))

@@ -2,7 +2,7 @@
 -- is told without them.
 --
 --   Wrote l at w m i == of l, with w written from at on, there came m; i is the place behind w
---   Lines n ..       == what is asked of the lists that n lines are printed from
+--   Printable n ..   == what is asked of the lists that n lines are printed from
 --   Sound s ds       == an accepted set and its deadlines
 use Prim.Native.Nat.{ℕ, _+_, _<_, _≤_}
 use mathlib.Core.Bool.{true}
@@ -21,7 +21,7 @@ pub record Wrote (l : List ℕ) (at : ℕ) (w m : List ℕ) (i : ℕ) : Type 0 w
 
 -- The lists that the lines are printed from, for n sub-jobs. Every local deadline is at most the bound, so a slack is
 -- printed without a sign.
-pub record Lines (n : ℕ) (subtasks deadlines criticals local finishes : List ℕ) : Type 0 where
+pub record Printable (n : ℕ) (subtasks deadlines criticals local finishes : List ℕ) : Type 0 where
   pub subtasks-length : length subtasks ≡ n
   pub deadlines-length : length deadlines ≡ n
   pub criticals-length : length criticals ≡ n

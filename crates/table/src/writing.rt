@@ -8,7 +8,7 @@ ghost use Rattle.lists.specs.Places.{places};
 ghost use Rattle.subjobs.specs.Reasons.{placeOf};
 ghost use Rattle.subjobs.specs.Sets.{subjobs};
 ghost use Rattle.table.specs.Writing.{figures, decimal, parted, lineOf, outHeader, printedLine, refusal};
-ghost use Rattle.table.specs.Stores.{Wrote, Lines};
+ghost use Rattle.table.specs.Stores.{Wrote, Printable};
 ghost use Rattle.table.specs.Answers.{lineAt, joined};
 use subjobs::Reason;
 
@@ -96,7 +96,7 @@ pub(crate) fn put_lines(
     local: &[u32],
     finishes: &[u32],
 ) -> usize
-    requires { ⌜ (at + 56 * length (now jobs) ≤ length (now out)) × Lines (length (now jobs)) (now subtasks) (now deadlines) (now criticals) (now local) (now finishes) ⌝ }
+    requires { ⌜ (at + 56 * length (now jobs) ≤ length (now out)) × Printable (length (now jobs)) (now subtasks) (now deadlines) (now criticals) (now local) (now finishes) ⌝ }
     ensures { λ r. ⌜ Wrote (now (out .entry)) at (joined (lineAt (subjobs (now (jobs .entry)) (now (subtasks .entry)) [] [] (now (deadlines .entry)) (now (criticals .entry))) (now (local .entry)) (now (finishes .entry))) (places (length (now (jobs .entry))))) (now (out .exit)) r ⌝ }
 {
     let mut end = at;

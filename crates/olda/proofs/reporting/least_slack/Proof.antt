@@ -1,6 +1,6 @@
 -- `reporting::least_slack` meets its contract: at each turn the place found so far, against those left, is the choice of all.
 use borrow.Author.Needs.{needs}
-use Prim.Native.Nat.{ℕ, _-_, _≤_, _<_}
+use Prim.Native.Nat.{ℕ, _+_, _-_, _≤_, _<_}
 use mathlib.Core.Bool.{Bool}
 use mathlib.Core.List.{List}
 use mathlib.Core.Path.{_≡_, refl, ap, sym, _∙_}
@@ -15,14 +15,14 @@ use Rattle.olda.proofs.reporting.least_slack.Statement.{statement}
 use Rattle.olda.proofs.reporting.least_slack.Tie as tie
 
 -- The smaller slack comes first.
-abbrev Order : List ℕ → List ℕ → ℕ → ℕ → Bool
-Order bounds local = byBound (λ i. getD bounds i 0) (λ i. getD local i 0)
+abbrev Order : List ℕ → List ℕ → List ℕ → ℕ → ℕ → Bool
+Order deadlines criticals local = byBound (λ i. getD deadlines i 0) (λ i. getD criticals i 0 + getD local i 0)
 
 abbrev Inv-loop : tie.InvT-loop
-Inv-loop bounds local p₀ i₀ p i = (1 ≤ i) × (p < length local) × (i ≤ length local) × (ahead (Order bounds local) p (drop i (places (length local))) ≡ ahead (Order bounds local) 0 (drop 1 (places (length local))))
+Inv-loop deadlines criticals local p₀ i₀ p i = (1 ≤ i) × (p < length local) × (i ≤ length local) × (ahead (Order deadlines criticals local) p (drop i (places (length local))) ≡ ahead (Order deadlines criticals local) 0 (drop 1 (places (length local))))
 
 abbrev μ-loop : tie.MeasureT-loop
-μ-loop bounds local p₀ i₀ p i = length local - i
+μ-loop deadlines criticals local p₀ i₀ p i = length local - i
 
 loop-holds : tie.Need-loop-holds Inv-loop μ-loop
 loop-holds c = (search needs, search needs, search needs, refl)
@@ -39,8 +39,8 @@ loop-less c = search needs
 tested :
     (c : tie.After-tighter Inv-loop μ-loop)
     → let l = c .before .before in
-    let a = l .before .before .before .args in
-    Order (a .bounds .now) (a .local .now) (l .loop .i) (l .loop .p) ≡ c .tighter .result
+    let a = l .before .before .before .before .args in
+    Order (a .deadlines .now) (a .criticals .now) (a .local .now) (l .loop .i) (l .loop .p) ≡ c .tighter .result
 tested c = sym (c .tighter .ensures)
 
 loop-again : tie.Need-loop-again Inv-loop μ-loop
@@ -48,8 +48,8 @@ loop-again c =
     let t = c .before in
     let l = t .before .before in
     let L = l .loop in
-    let a = l .before .before .before .args in
-    let lt = Order (a .bounds .now) (a .local .now) in
+    let a = l .before .before .before .before .args in
+    let lt = Order (a .deadlines .now) (a .criticals .now) (a .local .now) in
     let n = length (a .local .now) in
     let h = t .before .loop-test .taken in
     split (c .if1 .came)
@@ -59,9 +59,9 @@ loop-again c =
 returns : tie.Need-returns Inv-loop μ-loop
 returns c =
     let L = c .before .loop in
-    let start = c .before .before .before .before in
+    let start = c .before .before .before .before .before in
     let a = start .args in
-    let lt = Order (a .bounds .now) (a .local .now) in
+    let lt = Order (a .deadlines .now) (a .criticals .now) (a .local .now) in
     let n = length (a .local .now) in
     (search needs, choose-place lt n (start .pre .0) ∙ ap some (place-end lt n (L .p) (L .i) _ (c .loop-test .left) (L .inv .3)))
 

@@ -12,6 +12,12 @@ shared-slice-read-wide c = search needs
 wide-requires : tie.Need-wide-requires
 wide-requires c κs = search needs
 
+reach-requires : tie.Need-reach-requires
+reach-requires c κs = search needs
+
+add-result : tie.Need-add-result
+add-result c = search needs
+
 mul-wide-2 : tie.Need-mul-wide-2
 mul-wide-2 c = search needs
 
@@ -21,32 +27,14 @@ shared-slice-read-wide-2 c = search needs
 wide-requires-2 : tie.Need-wide-requires-2
 wide-requires-2 c κs = search needs
 
-add-result : tie.Need-add-result
-add-result c = search needs
-
-mul-wide-3 : tie.Need-mul-wide-3
-mul-wide-3 c = search needs
-
-shared-slice-read-wide-3 : tie.Need-shared-slice-read-wide-3
-shared-slice-read-wide-3 c = search needs
-
-wide-requires-3 : tie.Need-wide-requires-3
-wide-requires-3 c κs = search needs
-
-mul-wide-4 : tie.Need-mul-wide-4
-mul-wide-4 c = search needs
-
-shared-slice-read-wide-4 : tie.Need-shared-slice-read-wide-4
-shared-slice-read-wide-4 c = search needs
-
-wide-requires-4 : tie.Need-wide-requires-4
-wide-requires-4 c κs = search needs
+reach-requires-2 : tie.Need-reach-requires-2
+reach-requires-2 c κs = search needs
 
 add-result-2 : tie.Need-add-result-2
 add-result-2 c = search needs
 
 returns : tie.Need-returns
-returns c = rw (c .before .before .before .before .before .before .wide .ensures .0, c .before .before .before .before .wide2 .ensures .0, c .before .before .wide3 .ensures .0, c .wide4 .ensures .0)
+returns c = rw (c .before .before .before .before .wide .ensures .0, c .before .before .before .reach .ensures .0, c .before .wide2 .ensures .0, c .reach2 .ensures .0)
 
 pub tighter-spec : {M : Type 1} → statement M
 tighter-spec =
@@ -55,15 +43,11 @@ tighter-spec =
     mul-wide
     shared-slice-read-wide
     wide-requires
+    reach-requires
+    add-result
     mul-wide-2
     shared-slice-read-wide-2
     wide-requires-2
-    add-result
-    mul-wide-3
-    shared-slice-read-wide-3
-    wide-requires-3
-    mul-wide-4
-    shared-slice-read-wide-4
-    wide-requires-4
+    reach-requires-2
     add-result-2
     returns)

@@ -1,7 +1,6 @@
--- `fitting::assign_in` meets its contract: what the method told is the answer, and the result list is written at acceptance.
+-- `fitting::place_in` meets its contract: what the method told is the ruling, and the result list is written at acceptance.
 use borrow.Author.Needs.{sfits-of, needs}
 use Prim.Native.Nat.{ℕ, _<_}
-use mathlib.Core.List.{List}
 use mathlib.Core.Path.{refl, ap, sym, _∙_}
 use lib.IntN.{ℤ}
 use lib.ListN.{length, getD}
@@ -9,13 +8,12 @@ use mir.Syntax.{w64}
 use mir.Facts.{toZ-ofZ}
 use Rattle.subjobs.specs.Sets.{subjobs}
 use Rattle.subjobs.specs.declared.Reason.the-variants.{Late}
-use Rattle.olda.specs.declared.Answer.the-variants.{Refused}
-use Rattle.olda.specs.Answers.{report}
+use Rattle.subjobs.specs.declared.Judgement.the-variants.{Refused}
 use Rattle.olda.specs.Method.{method}
 use Rattle.olda.proofs.Raised.{Raised}
 use Rattle.olda.proofs.Reports.{method-raised, bound-raised}
-use Rattle.olda.proofs.fitting.assign_in.Statement.{statement}
-use Rattle.olda.proofs.fitting.assign_in.Tie as tie
+use Rattle.olda.proofs.fitting.place_in.Statement.{statement}
+use Rattle.olda.proofs.fitting.place_in.Tie as tie
 
 raise-requires : tie.Need-raise-requires
 raise-requires c κs =
@@ -32,9 +30,6 @@ enum-told c = search needs
 
 copy-requires : tie.Need-copy-requires
 copy-requires c κs = search needs
-
-report-requires : tie.Need-report-requires
-report-requires c κs = search needs
 
 enum-known-placing : tie.Need-enum-known-placing
 enum-known-placing c = search needs
@@ -76,18 +71,13 @@ raised c = λ i h. c .raise .ensures i (rw (c .before .before .before .before .b
 
 returns : tie.Need-returns
 returns c =
-    let m = c .before .before .before .before .before .before .before .before .before .before .before .before .before .before .before .before in
-    let q = c .before .before .before .before .before .before .before .before .before .before .before .before .before .before .before .before .before .before .before .before .before .before .before in
-    let start = c .before .before .before .before .before .before .before .before .before .before .before .before .before .before .before .before .before .before .before .before .before .before .before .before .before .before .before .before .before .before .before .before .before .before in
+    let start = c .before .before .before .before .before .before .before .before .before .before .before .before .before .before .before .before .before .before .before .before .before .before .before .before .before .before .before .before .before .before .before in
     let a = start .args in
-    let n = length (a .releases .now) in
-    let u : ℕ → ℕ = λ i. getD (q .raise .last .1 .1 .0) i 0 in
-    let r = raised q in
-    let o = rw (start .pre .1) at (c .before .before .before .before .before .copy .ensures) in
+    let o = rw (start .pre .1) at (c .before .before .copy .ensures) in
     λ js ks e.
     let s = subjobs js ks (a .releases .now) (a .executions .now) (a .deadlines .now) (a .criticals .now) in
-    rw (m .method .ensures (method s) (method-raised s n e u (a .local .now) r (start .pre .3) (start .pre .6)) .0 (c .before .before .before .before .before .before .before .before .enum-told .given .1))
-    (c .report .ensures s (search needs) (λ i h. r i (rw (← e) h)) ∙ ap (λ (l : List ℕ). report s (λ i. getD l i 0)) o, o)
+    rw (c .before .before .before .before .before .before .before .before .before .before .before .before .before .method .ensures (method s) (method-raised s (length (a .releases .now)) e _ (a .local .now) (raised (c .before .before .before .before .before .before .before .before .before .before .before .before .before .before .before .before .before .before .before .before)) (start .pre .3) (start .pre .6)) .0 (c .before .before .before .before .before .enum-told .given .1))
+    (refl, o)
 
 same-length-6 : tie.Need-same-length-6
 same-length-6 c = search needs
@@ -103,32 +93,29 @@ same-length-9 c = search needs
 
 returns-2 : tie.Need-returns-2
 returns-2 c =
-    let m = c .before .before .before .before .before .before .before .before .before .before .before in
-    let q = c .before .before .before .before .before .before .before .before .before .before .before .before .before .before .before .before .before .before in
     let start = c .before .before .before .before .before .before .before .before .before .before .before .before .before .before .before .before .before .before .before .before .before .before .before .before .before .before .before .before .before in
     let a = start .args in
     let n = length (a .releases .now) in
-    let u : ℕ → ℕ = λ i. getD (q .raise .last .1 .1 .0) i 0 in
-    let r = raised q in
+    let u : ℕ → ℕ = λ i. getD (c .before .before .before .before .before .before .before .before .before .before .before .before .before .before .before .before .before .before .raise .last .1 .1 .0) i 0 in
+    let r = raised (c .before .before .before .before .before .before .before .before .before .before .before .before .before .before .before .before .before .before) in
     let g = c .before .before .before .placing .given in
     λ js ks e.
     let s = subjobs js ks (a .releases .now) (a .executions .now) (a .deadlines .now) (a .criticals .now) in
-    let t = m .method .ensures (method s) (method-raised s n e u (a .local .now) r (start .pre .3) (start .pre .6)) .1 (g .0 .0) (g .0 .1 .0) (g .1) in
+    let t = c .before .before .before .before .before .before .before .before .before .before .before .method .ensures (method s) (method-raised s n e u (a .local .now) r (start .pre .3) (start .pre .6)) .1 (g .0 .0) (g .0 .1 .0) (g .1) in
     rw (t .1) (
       ap (λ (z : ℤ). Refused (Late (g .0 .0) (g .0 .1 .0) z))
           (toZ-ofZ {w = w64} (sfits-of (c .signed .ok)) ∙ c .signed .ensures ∙ sym (bound-raised s n e u (g .0 .0) r (t .0))),
       refl,
     )
 
-pub assign-in-spec : {M : Type 1} → statement M
-assign-in-spec =
+pub place-in-spec : {M : Type 1} → statement M
+place-in-spec =
     tie.close
     (tie.spec
     raise-requires
     method-requires
     enum-told
     copy-requires
-    report-requires
     enum-known-placing
     mul-signed
     slice-read-signed
