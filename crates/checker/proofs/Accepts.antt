@@ -18,12 +18,12 @@ use Rattle.subjobs.specs.Sets.{Subjobs, size, job, subtask, release, execution,
 use Rattle.subjobs.specs.Judging.{judgement}
 use Rattle.subjobs.specs.Conditions.{Six, Seven}
 use Rattle.subjobs.proofs.Fit.{Fit, fit}
-use Rattle.edf.specs.Runs.{sooner, owed}
-use Rattle.edf.specs.Answers.{run}
-use Rattle.edf.proofs.Ticks.{finish-at}
-use Rattle.edf.proofs.Turns.{below}
-use Rattle.edf.proofs.Keeps.{met}
-use Rattle.edf.proofs.Converse.{met-seven}
+use Rattle.ticks.specs.Runs.{sooner, owed}
+use Rattle.ticks.specs.Runs.{run}
+use Rattle.ticks.proofs.Ticks.{finish-at}
+use Rattle.ticks.proofs.Turns.{below}
+use Rattle.ticks.proofs.Keeps.{met}
+use Rattle.ticks.proofs.Converse.{met-seven}
 use Rattle.checker.specs.declared.Answer.the-variants.{Accepted, Refused}
 use Rattle.checker.specs.Answers.{answer}
 use Rattle.checker.proofs.Searches.{search-cases}

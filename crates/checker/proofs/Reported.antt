@@ -15,7 +15,7 @@ use Rattle.subjobs.specs.Sets.{Subjobs, size, release, execution, deadline, cri
 use Rattle.subjobs.specs.Judging.{judgement, orElse, ifPassed}
 use Rattle.subjobs.proofs.Fit.{fit}
 use Rattle.subjobs.proofs.Reported.{Within, within-or-else, within-search, within-more, judged-within}
-use Rattle.edf.specs.Answers.{run}
+use Rattle.ticks.specs.Runs.{run}
 use Rattle.checker.specs.declared.Answer.the-variants.{Accepted, Refused}
 use Rattle.checker.specs.Answers.{sixAt, six, sevenAt, seven, answer}
 

@@ -10,9 +10,10 @@ use Rattle.subjobs.specs.declared.Judgement.the-variants.{Passed}
 use Rattle.subjobs.specs.Sets.{Subjobs, size, job, subtask, release, execution}
 use Rattle.subjobs.specs.Judging.{judgement}
 use Rattle.subjobs.proofs.Fit.{Fit, fit}
-use Rattle.edf.specs.Runs.{sooner, owed}
-use Rattle.edf.specs.Answers.{run, finishes}
-use Rattle.edf.proofs.Finishes.{run-length}
+use Rattle.ticks.specs.Runs.{sooner, owed}
+use Rattle.ticks.specs.Runs.{run}
+use Rattle.edf.specs.Answers.{finishes}
+use Rattle.ticks.proofs.Finishes.{run-length}
 use Rattle.edf.proofs.Fresh.{fresh-finishes}
 
 module _ (s : Subjobs) (ds : List ℕ) (passed : judgement s (eqb (length ds) (size s)) ≡ Passed) where

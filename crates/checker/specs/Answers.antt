@@ -17,7 +17,7 @@ use Rattle.subjobs.specs.declared.Judgement.the-variants as judged
 use Rattle.subjobs.specs.Reasons as reasons
 use Rattle.subjobs.specs.Sets.{Subjobs, size, release, execution, deadline, critical}
 use Rattle.subjobs.specs.Judging.{judgement, orElse, firstRefusal, ifPassed}
-use Rattle.edf.specs.Answers.{run}
+use Rattle.ticks.specs.Runs.{run}
 use Rattle.checker.specs.declared.Answer.{Answer}
 use Rattle.checker.specs.declared.Answer.the-variants.{Accepted, Refused}
 

@@ -1,4 +1,6 @@
 // The table program.
+mod desk;
+
 fn main() {
     desk::serve();
 }

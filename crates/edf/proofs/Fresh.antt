@@ -12,10 +12,11 @@ use Rattle.subjobs.specs.declared.Judgement.the-variants.{Passed}
 use Rattle.subjobs.specs.Sets.{Subjobs, size, release, execution}
 use Rattle.subjobs.specs.Judging.{judgement}
 use Rattle.subjobs.proofs.Fit.{Fit, fit}
-use Rattle.edf.specs.Answers.{due, servedBefore, runOf, run, added, above, furtherLists, answer, finishes}
-use Rattle.edf.proofs.Ends.{end-horizon}
-use Rattle.edf.proofs.Turns.{below, horizon-fits}
-use Rattle.edf.proofs.Ticks.{run-ticks}
+use Rattle.ticks.specs.Runs.{due, servedBefore, runOf, run}
+use Rattle.edf.specs.Answers.{added, above, furtherLists, answer, finishes}
+use Rattle.ticks.proofs.Ends.{end-horizon}
+use Rattle.ticks.proofs.Turns.{below, horizon-fits}
+use Rattle.ticks.proofs.Ticks.{run-ticks}
 
 module _ (s : Subjobs) (ds asks : List ℕ) (passed : judgement s true ≡ Passed) where
   known : Fit s true

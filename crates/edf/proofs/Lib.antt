@@ -1,15 +1,5 @@
-pub mod Service
-pub mod Jumps
-pub mod Counted
-pub mod Ends
 pub mod Looking
-pub mod Turns
 pub mod Running
 pub mod Settled
-pub mod Ticks
 pub mod Fresh
-pub mod Groups
-pub mod Finishes
-pub mod Keeps
-pub mod Converse
-pub mod Alone
+pub mod Adding

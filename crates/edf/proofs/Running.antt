@@ -14,9 +14,10 @@ use native.Mathlib.Omega.{arith}
 use lib.ListN.{length, getD, set}
 use Rattle.lists.specs.Places.{places}
 use Rattle.lists.proofs.Members.{nodup-from}
-use Rattle.edf.specs.Core.{pick}
-use Rattle.edf.specs.Events.{at, owedIn, soonerIn, toServe, nextRelease, stretch, final, Sized, Ranged}
-use Rattle.edf.proofs.Turns.{Reached, eventsLeft, next, reached-busy, served-for, waited, over, below, horizon-fits, serves, serves-nobody}
+use Rattle.ticks.specs.Core.{pick}
+use Rattle.edf.specs.Parts.{Sized, Ranged}
+use Rattle.ticks.specs.Events.{at, owedIn, soonerIn, toServe, nextRelease, stretch, final}
+use Rattle.ticks.proofs.Turns.{Reached, eventsLeft, next, reached-busy, served-for, waited, over, below, horizon-fits, serves, serves-nobody}
 
 pub record Lists : Type 0 where
   pub jobs : List ℕ

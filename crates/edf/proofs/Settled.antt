@@ -19,13 +19,15 @@ use Rattle.subjobs.proofs.Fit.{Fit}
 use Rattle.edf.specs.declared.Totals.{Totals}
 use Rattle.edf.specs.declared.Simulated.{Simulated}
 use Rattle.edf.specs.declared.Answer.the-variants.{Ran, Refused}
-use Rattle.edf.specs.Core.{Core}
-use Rattle.edf.specs.Runs.{horizon, finish, end, busyTicks, idleTicks}
-use Rattle.edf.specs.Answers.{Run, runOf, run, added, above, furtherLists, answer, totals, finishes, simulated}
-use Rattle.edf.specs.Events.{at, owedIn, soonerIn, final, endOf, readOff, settled, written, Sized, Ranged, Settling}
-use Rattle.edf.proofs.Turns.{below}
-use Rattle.edf.proofs.Counted.{busy-done, done-horizon}
-use Rattle.edf.proofs.Ends.{finish-length, finish-owed, busy-owed, all-ticks}
+use Rattle.ticks.specs.Core.{Core}
+use Rattle.ticks.specs.Runs.{horizon, finish, end, busyTicks, idleTicks}
+use Rattle.ticks.specs.Runs.{Run, runOf, run}
+use Rattle.edf.specs.Answers.{added, above, furtherLists, answer, totals, finishes, simulated}
+use Rattle.edf.specs.Parts.{settled, written, Sized, Ranged, Settling}
+use Rattle.ticks.specs.Events.{at, owedIn, soonerIn, final, endOf, readOff}
+use Rattle.ticks.proofs.Turns.{below}
+use Rattle.ticks.proofs.Counted.{busy-done, done-horizon}
+use Rattle.ticks.proofs.Ends.{finish-length, finish-owed, busy-owed, all-ticks}
 
 pub not-above : (t : Totals) → above t ≡ false → (t .busy ≤ 1_000_000_000_000_000_000) × (t .idle ≤ 1_000_000_000_000_000_000)
 not-above t e =

@@ -1,63 +1,27 @@
 -- What the simulator answers, and what the finishes and the totals hold afterwards.
 --
---   due s asks i             == what place i is owed: the smaller of its ask and its execution
---   servedBefore s ds i j    == with deadlines ds, place i is served before place j
---   coreAt s ds asks t       == the set's core at moment t
---   run s ds asks            == the run of a set with deadlines ds and these asks: finishes, end, busy and idle ticks
+--   added r t                == the totals t with the ticks of the run r
+--   above t                  == a total stands above what a record may hold
 --   answer s ds asks n t     == the answer, for a list of n finishes and a record of totals t
 --   values a                 == document 01's number and values of an answer: 0 and the end, or the reason's
 --   totals s ds asks n t     == what the record of totals holds afterwards
 --   finishes s ds asks fs t  == what the list of finishes holds afterwards, if it held fs before
 use Prim.Native.Nat.{ℕ, _+_}
 use mathlib.Core.Bool.{Bool, cond, _&&_, _||_}
-use mathlib.Core.List.{List, [], _∷_, map}
+use mathlib.Core.List.{List, [], _∷_}
 use mathlib.Core.Path.{_≡_}
 use lib.Dec.{ltb, eqb}
 use lib.IntN.{ℤ, pos}
-use lib.ListN.{length, getD}
-use Rattle.lists.specs.Places.{places}
+use lib.ListN.{length}
 use Rattle.subjobs.specs.declared.Reason.the-variants as reason
 use Rattle.subjobs.specs.Reasons as reasons
-use Rattle.subjobs.specs.Sets.{Subjobs, size, job, subtask, release, execution}
+use Rattle.subjobs.specs.Sets.{Subjobs, size}
 use Rattle.subjobs.specs.Judging.{judgement, ifPassed}
 use Rattle.edf.specs.declared.Totals.{Totals}
 use Rattle.edf.specs.declared.Simulated.{Simulated}
 use Rattle.edf.specs.declared.Answer.{Answer}
 use Rattle.edf.specs.declared.Answer.the-variants.{Ran, Refused}
-use Rattle.edf.specs.Core.{Core, after}
-use Rattle.edf.specs.Runs.{sooner, owed, finish, end, busyTicks, idleTicks}
-
-pub record Run : Type 0 where
-  pub finishes : List ℕ
-  pub end : ℕ
-  pub busy : ℕ
-  pub idle : ℕ
-
--- the run of a core with the places 0 to n - 1
-unfoldable pub runOf : (r o : ℕ → ℕ) → (ℕ → ℕ → Bool) → ℕ → Run
-runOf r o lt n =
-    record {
-      finishes = map (finish r o lt (places n)) (places n);
-      end = end r o lt (places n);
-      busy = busyTicks r o lt (places n);
-      idle = idleTicks r o lt (places n);
-    }
-
--- what a sub-job of the set is owed,
-abbrev pub due : Subjobs → List ℕ → ℕ → ℕ
-due s asks = owed (execution s) (λ i. getD asks i 0)
-
--- who is served before whom,
-abbrev pub servedBefore : Subjobs → List ℕ → ℕ → ℕ → Bool
-servedBefore s ds = sooner (λ i. getD ds i 0) (job s) (subtask s)
-
--- the set's core at moment t,
-abbrev pub coreAt : Subjobs → List ℕ → List ℕ → ℕ → Core
-coreAt s ds asks t = after (release s) (due s asks) (servedBefore s ds) (places (size s)) t
-
--- and its run
-abbrev pub run : Subjobs → List ℕ → List ℕ → Run
-run s ds asks = runOf (release s) (due s asks) (servedBefore s ds) (size s)
+use Rattle.ticks.specs.Runs.{Run, run}
 
 -- Each run adds its own ticks to the record of totals.
 abbrev pub added : Run → Totals → Totals

@@ -1,4 +1,2 @@
-pub mod Core
-pub mod Runs
 pub mod Answers
-pub mod Events
+pub mod Parts

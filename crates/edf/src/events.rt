@@ -4,7 +4,8 @@ ghost use mathlib.Core.Path.{_≡_};
 ghost use mathlib.Core.Bool.{cond, _&&_};
 ghost use lib.Dec.{leb, ltb, eqb};
 ghost use lib.ListN.{length};
-ghost use Rattle.edf.specs.Events.{at, owedIn, soonerIn, toServe, nextRelease, stretch, Sized};
+ghost use Rattle.edf.specs.Parts.{Sized};
+ghost use Rattle.ticks.specs.Events.{at, owedIn, soonerIn, toServe, nextRelease, stretch};
 
 // A sub-job is owed the smaller of its ask and its execution.
 pub(crate) fn owed(execution: u32, ask: u32) -> u32

@@ -15,7 +15,7 @@ use Rattle.lists.specs.Places.{places}
 use Rattle.lists.specs.Order.{ahead, choose}
 use Rattle.lists.proofs.Members.{from-length}
 use Rattle.lists.proofs.Mapped.{places-at}
-use Rattle.olda.specs.Rules.{lower}
+use Rattle.rules.specs.Rules.{lower}
 
 module _ (lt : ℕ → ℕ → Bool) (xs : List ℕ) where
   pub choose-first : 0 < length xs → choose lt xs ≡ some (ahead lt (getD xs 0 0) (drop 1 xs))

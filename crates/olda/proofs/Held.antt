@@ -11,7 +11,7 @@ use lib.Seq.{drop-cons, drop-drop, drop-set-lt, getD-take, length-take-le, take-
 use Rattle.lists.specs.Places.{weight, Every}
 use Rattle.lists.proofs.Mapped.{part-within}
 use Rattle.lists.proofs.Members.{every-more}
-use Rattle.olda.specs.Method.{best, base}
+use Rattle.rules.specs.Method.{best, base}
 use Rattle.olda.specs.Held.{completions, lessened}
 use Rattle.olda.proofs.Shifts.{rest}
 

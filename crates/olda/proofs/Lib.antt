@@ -1,10 +1,3 @@
-pub mod Tails
-pub mod Falls
-pub mod Gap
-pub mod ReleaseOrder
-pub mod Rules
-pub mod Obeys
-pub mod Accepted
 pub mod Held
 pub mod Shifts
 pub mod Chosen
@@ -13,4 +6,3 @@ pub mod Turns
 pub mod Raised
 pub mod Reports
 pub mod Results
-pub mod AllPlaces

@@ -15,9 +15,9 @@ use Rattle.lists.proofs.Cases.{test, tests, eqb-no, same-ltb, same-leb}
 use Rattle.lists.proofs.Members.{every-in, in-every, without-in}
 use Rattle.lists.proofs.Choice.{chosen-in}
 use Rattle.subjobs.specs.Sets.{byBound}
-use Rattle.olda.specs.Method.{placed, best, base, steps}
-use Rattle.olda.specs.Rules.{lower}
-use Rattle.olda.proofs.AllPlaces.{every-base}
+use Rattle.rules.specs.Method.{placed, best, base, steps}
+use Rattle.rules.specs.Rules.{lower}
+use Rattle.rules.proofs.AllPlaces.{every-base}
 
 -- Two orders that agree on the places below n choose the same of them.
 module _ (n : ℕ) (lt lt′ : ℕ → ℕ → Bool) (same : (i j : ℕ) → i < n → j < n → lt i j ≡ lt′ i j) where

@@ -13,11 +13,11 @@ use Rattle.subjobs.specs.Judging.{ifPassed}
 use Rattle.lists.proofs.Mapped.{take-replicate}
 use Rattle.subjobs.proofs.Differences.{sub-same, sub-less}
 use Rattle.olda.specs.declared.Answer.the-variants.{Placed, Nothing, Refused}
-use Rattle.olda.specs.Method.{Outcome, placed, stuck, inOrder, steps, method}
-use Rattle.olda.specs.Rules.{lower}
+use Rattle.rules.specs.Method.{Outcome, placed, stuck, inOrder, steps, method}
+use Rattle.rules.specs.Rules.{lower}
 use Rattle.olda.specs.Answers.{report, outcome, written}
 use Rattle.olda.specs.Fitting.{ruling}
-use Rattle.olda.proofs.AllPlaces.{in-order-below}
+use Rattle.rules.proofs.AllPlaces.{in-order-below}
 use Rattle.olda.proofs.Raised.{Raised, raised-steps}
 
 module _ (s : Subjobs) (n : ℕ) (e : size s ≡ n) where

@@ -22,11 +22,11 @@ use Rattle.subjobs.specs.Judging.{judgement, ifPassed}
 use Rattle.subjobs.proofs.Fit.{fit}
 use Rattle.subjobs.proofs.Reported.{judged-within}
 use Rattle.olda.specs.declared.Answer.the-variants.{Refused}
-use Rattle.olda.specs.Method.{Outcome, placed, stuck, method}
-use Rattle.olda.specs.Rules.{lower}
+use Rattle.rules.specs.Method.{Outcome, placed, stuck, method}
+use Rattle.rules.specs.Rules.{lower}
 use Rattle.olda.specs.Answers.{report, outcome, answer, written, results}
-use Rattle.olda.proofs.Rules.{Ones, refused-in}
-use Rattle.olda.proofs.Obeys.{method-placed, method-stuck}
+use Rattle.rules.proofs.Rules.{Ones, refused-in}
+use Rattle.rules.proofs.Obeys.{method-placed, method-stuck}
 
 pub never-refused : {X : Type 0} (s : Subjobs) (d : ℕ → ℕ) (r : Reason) → report s d ≡ Refused r → X
 unfolding report

@@ -9,7 +9,7 @@ use lib.ListN.{length, getD, take, drop, set}
 use lib.Seq.{getD-take, getD-drop}
 use Rattle.lists.specs.Places.{Nodup, without}
 use Rattle.lists.specs.Order.{reversed, choose}
-use Rattle.olda.specs.Method.{stuck, best, base, steps}
+use Rattle.rules.specs.Method.{stuck, best, base, steps}
 use Rattle.olda.proofs.Shifts.{rest, without-at}
 
 pub part-at : (l : List ℕ) (n k i : ℕ) → i < n - k → getD (take (n - k) (drop k l)) i 0 ≡ getD l (k + i) 0

@@ -18,7 +18,7 @@ use Rattle.subjobs.specs.Sets.{Subjobs, size, deadline, critical, bound, slack,
 use Rattle.subjobs.specs.Judging.{judgement, ifPassed}
 use Rattle.olda.specs.declared.Answer.{Answer}
 use Rattle.olda.specs.declared.Answer.the-variants.{Placed, Nothing, Refused}
-use Rattle.olda.specs.Method.{Outcome, placed, stuck, method}
+use Rattle.rules.specs.Method.{Outcome, placed, stuck, method}
 
 -- An accepted set reports its least slack and the smallest place that has it. An empty set is accepted with a report
 -- of its own, "nothing to place", which carries no slack.

@@ -14,7 +14,7 @@ use Rattle.subjobs.specs.declared.Judgement.the-variants.{Passed, Refused}
 use Rattle.subjobs.specs.declared.Reason.the-variants.{Late}
 use Rattle.subjobs.specs.Sets.{Subjobs, subjobs, deadline, critical, bound}
 use Rattle.olda.specs.declared.Answer.{Answer}
-use Rattle.olda.specs.Method.{Outcome, placed, stuck, method}
+use Rattle.rules.specs.Method.{Outcome, placed, stuck, method}
 use Rattle.olda.specs.Answers.{outcome, written}
 
 abbrev pub Fits : (rs cs ds zs : List ℕ) → Type 0

@@ -1,5 +1,3 @@
-pub mod Rules
-pub mod Method
 pub mod Answers
 pub mod Held
 pub mod Fitting

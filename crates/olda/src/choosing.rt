@@ -6,7 +6,7 @@ ghost use mathlib.Core.Option.{some};
 ghost use lib.ListN.{length, getD};
 ghost use Rattle.lists.specs.Places.{Every};
 ghost use Rattle.lists.specs.Order.{reversed, choose};
-ghost use Rattle.olda.specs.Rules.{lower};
+ghost use Rattle.rules.specs.Rules.{lower};
 
 // A place as an index.
 pub(crate) fn index(place: u32) -> usize

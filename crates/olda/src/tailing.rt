@@ -5,7 +5,7 @@ ghost use mathlib.Core.Path.{_≡_};
 ghost use mathlib.Core.List.{List, map};
 ghost use lib.ListN.{length, getD, take, drop};
 ghost use Rattle.lists.specs.Places.{weight, Every};
-ghost use Rattle.olda.specs.Method.{best, base};
+ghost use Rattle.rules.specs.Method.{best, base};
 ghost use Rattle.olda.specs.Held.{completions};
 use crate::choosing::index;
 

@@ -22,14 +22,14 @@ use Rattle.subjobs.specs.Sets.{Subjobs, size, release, execution, deadline, cri
 use Rattle.subjobs.specs.Judging.{judgement}
 use Rattle.olda.specs.declared.Answer.the-variants.{Placed, Nothing, Refused}
 use Rattle.olda.specs.declared.Report.{Report}
-use Rattle.olda.specs.Method.{Outcome, placed, stuck, method}
-use Rattle.olda.specs.Rules.{lower}
+use Rattle.rules.specs.Method.{Outcome, placed, stuck, method}
+use Rattle.rules.specs.Rules.{lower}
 use Rattle.olda.specs.Answers.{answer, results, report}
-use Rattle.olda.proofs.Tails.{attained, base-threshold}
-use Rattle.olda.proofs.ReleaseOrder.{inorder-inOrder, nodup-inOrder, inOrder-below, below-inOrder}
-use Rattle.olda.proofs.Rules.{tail-base, base-tail, turn-falls, refused-in, one-deadline, one-refusal, not-both}
-use Rattle.olda.proofs.Obeys.{lower-order, method-placed, method-stuck}
-use Rattle.olda.proofs.Accepted.{accepted-six, accepted-seven, accepted-apart}
+use Rattle.rules.proofs.Tails.{attained, base-threshold}
+use Rattle.rules.proofs.ReleaseOrder.{inorder-inOrder, nodup-inOrder, inOrder-below, below-inOrder}
+use Rattle.rules.proofs.Rules.{tail-base, base-tail, turn-falls, refused-in, one-deadline, one-refusal, not-both}
+use Rattle.rules.proofs.Obeys.{lower-order, method-placed, method-stuck}
+use Rattle.rules.proofs.Accepted.{accepted-six, accepted-seven, accepted-apart}
 use Rattle.olda.proofs.Results.{passed-ones}
 use Rattle.promises.specs.Assignment.{Accepted, RefusedAt, Executions, accepted, localDeadline, AnswersAreTheRules, RulesAllowOne, ReleaseOrderIsTheSet, TailIsTheBase, TailIsOneRelease, CompletionsFall, DeadlinesDiffer, DeadlinesMeetSixAndSeven, ReportIsTheLeastSlack, NothingIsEmpty, SumsAreSigned}
 use Rattle.subjobs.proofs.Bounds.{bound-order, signed-not, bound-less, bound-met, slack-less}

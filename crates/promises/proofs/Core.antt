@@ -12,11 +12,11 @@ use Rattle.subjobs.specs.declared.Judgement.the-variants.{Passed}
 use Rattle.subjobs.specs.Sets.{Subjobs, size, job, subtask, release, execution}
 use Rattle.subjobs.specs.Judging.{judgement}
 use Rattle.subjobs.proofs.Fit.{fit}
-use Rattle.edf.specs.Answers.{due, servedBefore}
-use Rattle.edf.proofs.Service.{served-most}
-use Rattle.edf.proofs.Ticks.{finish-at}
-use Rattle.edf.proofs.Turns.{below}
-use Rattle.edf.proofs.Keeps.{kept, met}
+use Rattle.ticks.specs.Runs.{due, servedBefore}
+use Rattle.ticks.proofs.Service.{served-most}
+use Rattle.ticks.proofs.Ticks.{finish-at}
+use Rattle.ticks.proofs.Turns.{below}
+use Rattle.ticks.proofs.Keeps.{kept, met}
 use Rattle.checker.proofs.Accepts.{accepts, unmet, missed, seven-finishes}
 use Rattle.promises.specs.Core.{Passes, KeepsDeadlines, NeverMore, ChecksExactly, SevenOnTheCore, NamesUnmet, NamesMissed}
 

@@ -17,23 +17,23 @@ use Rattle.subjobs.specs.declared.Judgement.the-variants.{Passed}
 use Rattle.subjobs.specs.Sets.{Subjobs, size, job, subtask, release, execution, deadline, critical}
 use Rattle.subjobs.specs.Judging.{judgement}
 use Rattle.subjobs.proofs.Fit.{fit}
-use Rattle.olda.specs.Method.{inOrder, placed, method}
-use Rattle.olda.proofs.Tails.{base-in}
+use Rattle.rules.specs.Method.{inOrder, placed, method}
+use Rattle.rules.proofs.Tails.{base-in}
 use Rattle.lists.proofs.Rearranged.{Same, same-sym, same-in}
-use Rattle.olda.specs.Rules.{lower, Accepts, over, place}
-use Rattle.olda.proofs.ReleaseOrder.{inorder-inOrder, nodup-inOrder, same-inOrder, inOrder-below, below-inOrder}
-use Rattle.olda.proofs.Rules.{Ones, ones-without, turn-step, same-accepts}
-use Rattle.olda.proofs.Obeys.{lower-order, method-placed}
-use Rattle.olda.proofs.Accepted.{accepted-falls}
+use Rattle.rules.specs.Rules.{lower, Accepts, over, place}
+use Rattle.rules.proofs.ReleaseOrder.{inorder-inOrder, nodup-inOrder, same-inOrder, inOrder-below, below-inOrder}
+use Rattle.rules.proofs.Rules.{Ones, ones-without, turn-step, same-accepts}
+use Rattle.rules.proofs.Obeys.{lower-order, method-placed}
+use Rattle.rules.proofs.Accepted.{accepted-falls}
 use Rattle.olda.proofs.Results.{passed-ones}
-use Rattle.edf.specs.Runs.{sooner, owed, finish}
-use Rattle.edf.specs.Answers as edf
-use Rattle.edf.proofs.Service.{served, served-is-active, served-most}
-use Rattle.edf.proofs.Finishes.{finish-by, run-length}
-use Rattle.edf.proofs.Turns.{below}
-use Rattle.edf.proofs.Ticks.{finish-at}
-use Rattle.edf.proofs.Keeps.{sooner-order, sooner-by}
-use Rattle.edf.proofs.Alone.{served-alike, sooner-total}
+use Rattle.ticks.specs.Runs.{sooner, owed, finish}
+use Rattle.ticks.specs.Runs as ticks
+use Rattle.ticks.proofs.Service.{served, served-is-active, served-most}
+use Rattle.ticks.proofs.Finishes.{finish-by, run-length}
+use Rattle.ticks.proofs.Turns.{below}
+use Rattle.ticks.proofs.Ticks.{finish-at}
+use Rattle.ticks.proofs.Keeps.{sooner-order, sooner-by}
+use Rattle.ticks.proofs.Alone.{served-alike, sooner-total}
 use Rattle.promises.proofs.Peel.{Peel, bare, peel, Ready, exact}
 
 -- What the rules give is peeled in every order in which a smaller deadline comes before a greater: one of the base,
@@ -129,14 +129,14 @@ pub exactly-on-the-deadline :
     → judgement s o ≡ Passed
     → method s ≡ placed ds
     → ((i : ℕ) → i < size s → execution s i ≤ getD asks i 0)
-    → edf.run s ds asks .finishes ≡ ds
+    → ticks.run s ds asks .finishes ≡ ds
 exactly-on-the-deadline s o ds asks passed accepted whole =
     let f = fit s o passed in
     let a : ℕ → ℕ = λ i. getD asks i 0 in
     let d : ℕ → ℕ = λ i. getD ds i 0 in
     let lt = sooner d (job s) (subtask s) in
     let len = run-length (release s) (owed (execution s) a) lt (size s) in
-    ext-getD 0 (edf.run s ds asks .finishes) ds (len ∙ sym (placed-length s o ds passed accepted))
+    ext-getD 0 (ticks.run s ds asks .finishes) ds (len ∙ sym (placed-length s o ds passed accepted))
     (λ i h.
     let k : i < size s = omega arith in
     finish-at s ds asks i k

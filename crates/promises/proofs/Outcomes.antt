@@ -12,13 +12,13 @@ use Rattle.subjobs.specs.declared.Judgement.{Judgement}
 use Rattle.subjobs.specs.Sets.{Subjobs, size, release}
 use Rattle.subjobs.specs.Judging.{judgement, ifPassed}
 use Rattle.olda.specs.declared.Answer.the-variants.{Refused, Placed}
-use Rattle.olda.specs.Method.{Outcome, placed, stuck, method}
+use Rattle.rules.specs.Method.{Outcome, placed, stuck, method}
 use Rattle.edf.specs.declared.Answer.the-variants.{Ran}
 use Rattle.edf.specs.declared.Totals.{Totals}
 use Rattle.lists.proofs.Cases.{both}
 use Rattle.olda.proofs.Results.{never-refused, results-length}
 use Rattle.subjobs.proofs.Fit.{fit}
-use Rattle.edf.proofs.Finishes.{run-length}
+use Rattle.ticks.proofs.Finishes.{run-length}
 use Rattle.promises.specs.Outcomes.{RefusedKeeps, WritesAll, OneOutcome}
 use Rattle.promises.specs.Assignment.{accepted}
 use Rattle.promises.proofs.Assignment.{accepted-placed}
@@ -29,6 +29,7 @@ use Rattle.olda.specs.declared.Report as olda-report
 use Rattle.edf.specs.declared.Report as edf-report
 use Rattle.edf.specs.declared.Answer.the-variants as running
 use Rattle.subjobs.specs.declared.Reason.the-variants as reason
+use Rattle.ticks.specs.Runs as ticks
 use Rattle.edf.specs.Answers as edf
 
 placing-keeps :
@@ -68,7 +69,7 @@ ran-length s ds asks n t r e = by-judgement (judgement s (edf.furtherLists s ds 
         (j : Judgement)
         → judgement s (edf.furtherLists s ds asks n) ≡ j
         → ifPassed j
-        (cond (edf.above (edf.added (edf.run s ds asks) t)) (running.Refused reason.Totals) (Ran (record { end = edf.run s ds asks .end })))
+        (cond (edf.above (edf.added (ticks.run s ds asks) t)) (running.Refused reason.Totals) (Ran (record { end = ticks.run s ds asks .end })))
         running.Refused
         ≡ Ran r
         → n ≡ size s
@@ -85,7 +86,7 @@ writes-all = (
   λ s ds asks fs old t r e l. (
     rw (e, l, e),
     rw e
-        (run-length (release s) (edf.due s asks) (edf.servedBefore s ds) (size s)
+        (run-length (release s) (ticks.due s asks) (ticks.servedBefore s ds) (size s)
         ∙ sym (ran-length s ds asks (length fs) t r e)),
   ),
   door-writes-all,

@@ -20,13 +20,13 @@ use Rattle.lists.proofs.Cases.{split, test, clash, tests, tested}
 use Rattle.lists.proofs.Members.{in-nil, in-filter, in-without, without-in, nodup-filter, inorder-filter}
 use Rattle.lists.proofs.Sums.{least-le}
 use Rattle.lists.proofs.Choice.{Order, Total}
-use Rattle.olda.specs.Method.{best, base}
-use Rattle.olda.proofs.Tails.{base-in, base-threshold, late-room}
-use Rattle.olda.proofs.Gap.{gap, early-room}
-use Rattle.edf.proofs.Service.{served, turn, served-start, served-is-active, served-first, tick-cases, served-grows}
-use Rattle.edf.proofs.Groups.{since, Leads, leads-tended, group-done, done-later}
-use Rattle.edf.proofs.Alone.{served-alike}
-use Rattle.edf.proofs.Converse.{served-since}
+use Rattle.rules.specs.Method.{best, base}
+use Rattle.rules.proofs.Tails.{base-in, base-threshold, late-room}
+use Rattle.rules.proofs.Gap.{gap, early-room}
+use Rattle.ticks.proofs.Service.{served, turn, served-start, served-is-active, served-first, tick-cases, served-grows}
+use Rattle.ticks.proofs.Groups.{since, Leads, leads-tended, group-done, done-later}
+use Rattle.ticks.proofs.Alone.{served-alike}
+use Rattle.ticks.proofs.Converse.{served-since}
 
 pub data Peel (r c : ℕ → ℕ) (lt : ℕ → ℕ → Bool) (d : ℕ → ℕ) : List ℕ → Type 0 where
   bare : Peel r c lt d []

@@ -10,10 +10,11 @@ use Rattle.lists.proofs.Cases.{test, tests}
 use Rattle.lists.proofs.Members.{in-places, nodup-from}
 use Rattle.subjobs.specs.Sets.{size, release}
 use Rattle.subjobs.proofs.Fit.{fit}
-use Rattle.edf.specs.Answers.{due, servedBefore}
-use Rattle.edf.proofs.Finishes.{finish-by}
-use Rattle.edf.proofs.Turns.{below}
-use Rattle.edf.proofs.Ticks.{finish-at, run-finish, finish-nothing, run-busy, run-ticks, two-runs}
+use Rattle.ticks.specs.Runs.{due, servedBefore}
+use Rattle.ticks.proofs.Finishes.{finish-by}
+use Rattle.ticks.proofs.Turns.{below}
+use Rattle.edf.proofs.Adding.{two-runs}
+use Rattle.ticks.proofs.Ticks.{finish-at, run-finish, finish-nothing, run-busy, run-ticks}
 use Rattle.promises.specs.Core.{served, finish}
 use Rattle.promises.proofs.Core.{never-more}
 use Rattle.promises.specs.Runs.{FinishIsLastTick, ServedByFinish, OwedNothing, BusyIsOwed, TicksAreTheEnd, RunsAddUp}

@@ -24,8 +24,8 @@ use Rattle.subjobs.specs.Conditions.{completion, Six, Seven}
 use Rattle.olda.specs.declared.Answer.{Answer}
 use Rattle.olda.specs.declared.Answer.the-variants.{Placed, Nothing, Refused}
 use Rattle.olda.specs.declared.Report.{Report}
-use Rattle.olda.specs.Method.{inOrder, best, base}
-use Rattle.olda.specs.Rules.{lower, Base, Turn, Accepts, Refuses}
+use Rattle.rules.specs.Method.{inOrder, best, base}
+use Rattle.rules.specs.Rules.{lower, Base, Turn, Accepts, Refuses}
 use Rattle.olda.specs.Answers.{answer, results, report}
 
 abbrev pub Accepted : Subjobs → (ℕ → ℕ) → Type 0

@@ -18,8 +18,8 @@ use Rattle.subjobs.specs.declared.Reason.the-variants.{Unmet, Missed}
 use Rattle.subjobs.specs.Sets.{Subjobs, size, release, execution, deadline, critical}
 use Rattle.subjobs.specs.Judging.{judgement}
 use Rattle.subjobs.specs.Conditions.{SixAt, Six, Seven}
-use Rattle.edf.specs.Answers as edf
-use Rattle.edf.specs.Answers.{due, coreAt}
+use Rattle.ticks.specs.Runs as ticks
+use Rattle.ticks.specs.Runs.{due, coreAt}
 use Rattle.checker.specs.declared.Answer.the-variants.{Accepted, Refused}
 use Rattle.checker.specs.Answers as checker
 
@@ -40,7 +40,7 @@ abbrev pub served : Subjobs → List ℕ → List ℕ → ℕ → ℕ → ℕ
 served s ds asks t i = getD (coreAt s ds asks t .served) i 0
 
 abbrev pub finish : Subjobs → List ℕ → List ℕ → ℕ → ℕ
-finish s ds asks i = getD (edf.run s ds asks .finishes) i 0
+finish s ds asks i = getD (ticks.run s ds asks .finishes) i 0
 
 -- The core keeps deadlines that meet (6) and (7), whatever is asked: at its deadline each sub-job has been served the
 -- smaller of its ask and its execution, and it finishes by then.

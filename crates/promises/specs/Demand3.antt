@@ -12,7 +12,7 @@ use mathlib.Core.Path.{_≡_}
 use lib.ListN.{length, getD}
 use Rattle.subjobs.specs.Sets.{Subjobs, size, execution}
 use Rattle.olda.specs.Answers.{answer, results}
-use Rattle.edf.specs.Answers.{run, due}
+use Rattle.ticks.specs.Runs.{run, due}
 use Rattle.checker.specs.declared.Answer.the-variants.{Accepted}
 use Rattle.checker.specs.Answers as checker
 use Rattle.promises.specs.Assignment.{accepted, localDeadline}

@@ -17,8 +17,9 @@ use Rattle.subjobs.specs.Sets.{Subjobs, size, release}
 use Rattle.edf.specs.declared.Answer.the-variants.{Ran}
 use Rattle.edf.specs.declared.Report.{Report}
 use Rattle.edf.specs.declared.Totals.{Totals}
-use Rattle.edf.specs.Core.{pick}
-use Rattle.edf.specs.Answers.{due, servedBefore, coreAt, run, answer, totals}
+use Rattle.ticks.specs.Core.{pick}
+use Rattle.ticks.specs.Runs.{due, servedBefore, coreAt, run}
+use Rattle.edf.specs.Answers.{answer, totals}
 use Rattle.promises.specs.Core.{Passes, served, finish}
 
 abbrev pub turn : Subjobs → List ℕ → List ℕ → ℕ → Option ℕ

@@ -15,7 +15,7 @@ use lib.IntN.{ℤ, pos, negℤ}
 use lib.ListN.{length, replicate}
 use Rattle.lists.specs.Places.{from}
 use Rattle.subjobs.specs.Sets.{Subjobs, subjobs, size, release, execution}
-use Rattle.olda.specs.Method.{inOrder, best, base}
+use Rattle.rules.specs.Method.{inOrder, best, base}
 use Rattle.olda.specs.Answers as olda
 use Rattle.edf.specs.declared.Totals.{Totals}
 use Rattle.edf.specs.Answers as edf

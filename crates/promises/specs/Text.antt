@@ -12,7 +12,7 @@ use Rattle.lists.specs.Places.{places}
 use Rattle.subjobs.specs.declared.Judgement.the-variants.{Passed}
 use Rattle.subjobs.specs.Sets.{Subjobs, size}
 use Rattle.olda.specs.Answers as olda
-use Rattle.edf.specs.Answers as edf
+use Rattle.ticks.specs.Runs as ticks
 use Rattle.table.specs.Format.{Rows, Table}
 use Rattle.table.specs.Reading.{records, read}
 use Rattle.table.specs.Writing.{outHeader}
@@ -33,7 +33,7 @@ OneLineEach =
     ≡ outHeader
     ∷ map
     (lineAt s (olda.results s (replicate (size s) 0))
-    (edf.run s (olda.results s (replicate (size s) 0)) (s .executions) .finishes))
+    (ticks.run s (olda.results s (replicate (size s) 0)) (s .executions) .finishes))
     (places (size s))
 
 -- No answer is longer than a header of 35 bytes and 128 lines of 56; whoever lends as much always gets one.

@@ -15,7 +15,7 @@ use Rattle.subjobs.specs.Reasons.{numberOf}
 use Rattle.subjobs.specs.Sets.{Subjobs, size, job, subtask, deadline, critical}
 use Rattle.subjobs.specs.Judging.{ifPassed}
 use Rattle.olda.specs.Answers as olda
-use Rattle.edf.specs.Answers as edf
+use Rattle.ticks.specs.Runs as ticks
 use Rattle.table.specs.declared.Written.the-variants.{Bytes, NoRoom}
 use Rattle.table.specs.declared.reading.Row.{Row}
 use Rattle.table.specs.Reading.{Parsed, records, refused, read, setOf}
@@ -55,7 +55,7 @@ joined-length f a (suc n) h =
 accepted-length : (s : Subjobs) (ds : List ℕ) → Sound s ds → length (accepted s ds) ≤ 35 + 56 * size s
 unfolding accepted
 accepted-length s ds w =
-    let fs = edf.run s ds (s .executions) .finishes in
+    let fs = ticks.run s ds (s .executions) .finishes in
     omega (
       arith,
       joined-length (lineAt s ds fs) 0 (size s)

@@ -12,7 +12,7 @@ use Rattle.lists.proofs.Members.{every-more, every-append}
 use Rattle.subjobs.specs.declared.Judgement.the-variants.{Passed}
 use Rattle.subjobs.specs.Sets.{Subjobs, size, job, subtask, deadline, critical}
 use Rattle.olda.specs.Answers as olda
-use Rattle.edf.specs.Answers as edf
+use Rattle.ticks.specs.Runs as ticks
 use Rattle.table.specs.Writing.{decimal, parted, lineOf, outHeader}
 use Rattle.table.specs.Stores.{Sound}
 use Rattle.table.specs.Format.{Digit}
@@ -70,10 +70,10 @@ joined-lines f a (suc n) h =
 accepted-lines :
     (s : Subjobs) (ds : List ℕ)
     → Sound s ds
-    → linesOf (accepted s ds) ≡ outHeader ∷ map (lineAt s ds (edf.run s ds (s .executions) .finishes)) (places (size s))
+    → linesOf (accepted s ds) ≡ outHeader ∷ map (lineAt s ds (ticks.run s ds (s .executions) .finishes)) (places (size s))
 unfolding accepted cut
 accepted-lines s ds w =
-    let fs = edf.run s ds (s .executions) .finishes in
+    let fs = ticks.run s ds (s .executions) .finishes in
     ap (λ (ls : List (List ℕ)). outHeader ∷ ls)
     (joined-lines (lineAt s ds fs) 0 (size s)
     (λ i l. rw (line-is s ds fs i (in-time s ds w i (omega arith))) (line-line (job s i) (subtask s i) (getD ds i 0) (getD fs i 0) (deadline s i - critical s i - getD ds i 0))))
@@ -83,7 +83,7 @@ pub one-line-each :
     (s : Subjobs)
     → verdictOf (olda.answer s (size s)) ≡ Passed
     → let ds = olda.results s (replicate (size s) 0) in
-    linesOf (tabled s) ≡ outHeader ∷ map (lineAt s ds (edf.run s ds (s .executions) .finishes)) (places (size s))
+    linesOf (tabled s) ≡ outHeader ∷ map (lineAt s ds (ticks.run s ds (s .executions) .finishes)) (places (size s))
 unfolding tabled
 one-line-each s e =
     rw e

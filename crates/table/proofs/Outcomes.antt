@@ -13,13 +13,14 @@ use Rattle.subjobs.specs.Sets.{Subjobs, size, release, execution, deadline, cri
 use Rattle.subjobs.specs.Judging.{judgement as judged, ifPassed}
 use Rattle.subjobs.proofs.Fit.{Fit, fit, refused-passed}
 use Rattle.olda.specs.declared.Answer.the-variants as olda-answer
-use Rattle.olda.specs.Method.{Outcome, placed, stuck, method}
+use Rattle.rules.specs.Method.{Outcome, placed, stuck, method}
 use Rattle.olda.specs.Answers as olda
-use Rattle.olda.proofs.Obeys.{method-placed}
-use Rattle.olda.proofs.Accepted.{accepted-six}
+use Rattle.rules.proofs.Obeys.{method-placed}
+use Rattle.rules.proofs.Accepted.{accepted-six}
 use Rattle.olda.proofs.Results.{passed-ones}
+use Rattle.ticks.specs.Runs as ticks
 use Rattle.edf.specs.Answers as edf
-use Rattle.edf.proofs.Finishes as edf-finishes
+use Rattle.ticks.proofs.Finishes as edf-finishes
 use Rattle.edf.proofs.Fresh.{fresh-finishes}
 use Rattle.table.specs.Stores.{Sound}
 use Rattle.table.specs.Answers.{verdictOf}
@@ -45,12 +46,12 @@ module _ (s : Subjobs) (ds : List ℕ) (w : Sound s ds) where
   pub run-finishes :
       (fs : List ℕ)
       → length fs ≡ size s
-      → edf.finishes s ds (s .executions) fs (record { busy = 0; idle = 0 }) ≡ edf.run s ds (s .executions) .finishes
+      → edf.finishes s ds (s .executions) fs (record { busy = 0; idle = 0 }) ≡ ticks.run s ds (s .executions) .finishes
   run-finishes fs l = fresh-finishes s ds (s .executions) (w .passed) fs sound-length (fits .lengths .executions) l
 
-  pub run-length : length (edf.run s ds (s .executions) .finishes) ≡ size s
+  pub run-length : length (ticks.run s ds (s .executions) .finishes) ≡ size s
   run-length =
-      edf-finishes.run-length (release s) (edf.due s (s .executions)) (edf.servedBefore s ds) (size s)
+      edf-finishes.run-length (release s) (ticks.due s (s .executions)) (ticks.servedBefore s ds) (size s)
 
 -- What the assignment accepts is sound.
 module _ (s : Subjobs) (out : List ℕ) where

@@ -6,11 +6,11 @@ use Rattle.lists.specs.Places.{from, filter, weight, least, greatest}
 use Rattle.lists.specs.Order.{ahead, choose}
 use Rattle.lists.specs.Search.{someFrom}
 use Rattle.subjobs.specs.Judging.{refusalFrom, judgement}
-use Rattle.olda.specs.Method.{insert, inOrder, best, base, steps, method}
+use Rattle.rules.specs.Method.{insert, inOrder, best, base, steps, method}
 use Rattle.olda.specs.Answers as olda
-use Rattle.edf.specs.Core.{start, after}
-use Rattle.edf.specs.Runs.{horizon, finish, end, busyTicks, idleTicks}
-use Rattle.edf.specs.Answers as edf
+use Rattle.ticks.specs.Core.{start, after}
+use Rattle.ticks.specs.Runs.{horizon, finish, end, busyTicks, idleTicks}
+use Rattle.ticks.specs.Runs as ticks
 use Rattle.table.specs.Reading.{digits, number, fieldAt, lineEnd, recordAt, recordsFrom, header, starts, afterHeader, read}
 use Rattle.table.specs.Writing.{figures, lineOf, outHeader, refusal, crlf}
 use Rattle.table.specs.Answers.{joined, accepted, tabled, answer}
@@ -42,5 +42,5 @@ refused-5-2 =
     114 ∷ 101 ∷ 102 ∷ 117 ∷ 115 ∷ 101 ∷ 100 ∷ 44 ∷ 53 ∷ 44 ∷ 50 ∷ 13 ∷ 10 ∷ []
 
 pub worked : (answer (header ++ crlf ++ rows) ≡ outHeader ++ deadlines) × (answer (header ++ crlf ++ late) ≡ refused-5-2)
-unfolding from filter weight least greatest ahead choose someFrom refusalFrom judgement insert inOrder best base steps method olda.report olda.answer olda.results start after horizon finish end busyTicks idleTicks edf.runOf digits number fieldAt lineEnd recordAt recordsFrom starts afterHeader read figures lineOf refusal joined accepted tabled answer
+unfolding from filter weight least greatest ahead choose someFrom refusalFrom judgement insert inOrder best base steps method olda.report olda.answer olda.results start after horizon finish end busyTicks idleTicks ticks.runOf digits number fieldAt lineEnd recordAt recordsFrom starts afterHeader read figures lineOf refusal joined accepted tabled answer
 worked = (refl, refl)

@@ -22,7 +22,7 @@ use Rattle.subjobs.specs.Judging.{ifPassed}
 use Rattle.olda.specs.declared.Answer.{Answer}
 use Rattle.olda.specs.declared.Answer.the-variants as olda-answer
 use Rattle.olda.specs.Answers as olda
-use Rattle.edf.specs.Answers as edf
+use Rattle.ticks.specs.Runs as ticks
 use Rattle.table.specs.declared.Written.{Written}
 use Rattle.table.specs.declared.Written.the-variants.{Bytes, NoRoom}
 use Rattle.table.specs.Reading.{Parsed, records, refused, read, setOf}
@@ -39,7 +39,7 @@ joined f (i ∷ is) = f i ++ joined f is
 
 -- Accepted: a header and one line per sub-job in input order, the finishes those when every ask equals execution.
 unfoldable pub accepted : Subjobs → List ℕ → List ℕ
-accepted s ds = outHeader ++ joined (lineAt s ds (edf.run s ds (s .executions) .finishes)) (places (size s))
+accepted s ds = outHeader ++ joined (lineAt s ds (ticks.run s ds (s .executions) .finishes)) (places (size s))
 
 -- whether the assignment accepts, and why not
 abbrev pub verdictOf : Answer → Judgement

@@ -13,7 +13,7 @@ use lib.Seq.{sets}
 use Rattle.subjobs.specs.declared.Judgement.the-variants.{Passed}
 use Rattle.subjobs.specs.Sets.{Subjobs}
 use Rattle.subjobs.specs.Judging.{judgement}
-use Rattle.olda.specs.Method.{placed, method}
+use Rattle.rules.specs.Method.{placed, method}
 
 pub record Wrote (l : List ℕ) (at : ℕ) (w m : List ℕ) (i : ℕ) : Type 0 where
   pub text : m ≡ sets l at w

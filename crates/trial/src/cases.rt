@@ -2,6 +2,7 @@
 // 4 table) and what the entry is called with; any other number ends the text.
 use crate::printing;
 use crate::reading;
+use crate::saying;
 
 // Every case of a text. A case takes at least a byte; the test for one that does not is what shows
 // that the program ends.

@@ -7,6 +7,7 @@ ghost use lib.ListN.{length};
 mod cases;
 mod printing;
 mod reading;
+mod saying;
 
 fn main() {
     let mut text = room();

@@ -1,6 +1,7 @@
 // Answers as text on standard output.
-use saying::say;
-use saying::wide;
+use crate::saying;
+use crate::saying::say;
+use crate::saying::wide;
 use subjobs::Reason;
 
 // A space and a number.

@@ -10,7 +10,7 @@ use lib.ListN.{length, take, length-append}
 use lib.Seq.{length-take-le, take-at}
 use Rattle.subjobs.specs.Sets.{Subjobs, subjobs, size}
 use Rattle.subjobs.proofs.Fit.{Fit, fit}
-use Rattle.edf.specs.Answers.{run}
+use Rattle.ticks.specs.Runs.{run}
 use Rattle.checker.proofs.Runs.{ran, ran-length}
 use Rattle.checker.proofs.conditions.seven.Statement.{statement}
 use Rattle.checker.proofs.conditions.seven.Tie as tie

@@ -7,7 +7,7 @@ use native.Mathlib.Nat.{sub-zero}
 use lib.Dec.{ltb}
 use lib.ListN.{length}
 use Rattle.lists.specs.Places.{from, filter, least}
-use Rattle.edf.specs.Events.{at}
+use Rattle.ticks.specs.Events.{at}
 use Rattle.edf.proofs.Looking.{next-none, next-more}
 use Rattle.edf.proofs.events.next_release.Statement.{statement}
 use Rattle.edf.proofs.events.next_release.Tie as tie

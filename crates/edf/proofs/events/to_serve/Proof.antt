@@ -8,7 +8,7 @@ use lib.Dec.{leb, ltb}
 use lib.ListN.{length}
 use Rattle.lists.specs.Places.{from, filter}
 use Rattle.lists.specs.Order.{choose}
-use Rattle.edf.specs.Events.{at, owedIn, soonerIn}
+use Rattle.ticks.specs.Events.{at, owedIn, soonerIn}
 use Rattle.edf.proofs.Looking.{found, onward, look-start, look-done, look-skip, look-first, look-better, look-worse}
 use Rattle.edf.proofs.events.to_serve.Statement.{statement}
 use Rattle.edf.proofs.events.to_serve.Tie as tie

@@ -4,8 +4,8 @@ use Prim.Native.Nat.{_<_}
 use mathlib.Core.Path.{_≡_, _∙_}
 use lib.ListN.{length, length-set}
 use native.Mathlib.Omega.{arith}
-use Rattle.edf.specs.Events.{Sized}
-use Rattle.edf.proofs.Turns.{reached-start}
+use Rattle.edf.specs.Parts.{Sized}
+use Rattle.ticks.proofs.Turns.{reached-start}
 use Rattle.edf.proofs.Running.{Lists, lists, Holds, Served, turnsLeft, owing, serves-on, waits-on, ends-here}
 use Rattle.edf.proofs.runs.run_out.Statement.{statement}
 use Rattle.edf.proofs.runs.run_out.Tie as tie

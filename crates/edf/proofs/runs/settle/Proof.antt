@@ -5,8 +5,9 @@ use mathlib.Core.Bool.{false, _||_}
 use mathlib.Core.Path.{_≡_, refl, sym, ap, _∙_}
 use native.Mathlib.Omega.{arith}
 use lib.ListN.{length}
-use Rattle.edf.specs.Answers.{Run, added, above}
-use Rattle.edf.specs.Events.{at, owedIn, endOf, readOff}
+use Rattle.ticks.specs.Runs.{Run}
+use Rattle.edf.specs.Answers.{added, above}
+use Rattle.ticks.specs.Events.{at, owedIn, endOf, readOff}
 use Rattle.edf.proofs.Settled.{settled-refused, settled-ran, settled-fits}
 use Rattle.edf.proofs.runs.settle.Statement.{statement}
 use Rattle.edf.proofs.runs.settle.Tie as tie

@@ -5,7 +5,7 @@ use mathlib.Core.List.{List, _++_, map}
 use mathlib.Core.Path.{_≡_, _∙_}
 use lib.ListN.{length, take, length-set}
 use Rattle.lists.specs.Places.{from}
-use Rattle.edf.specs.Events.{at, owedIn, finishOf}
+use Rattle.ticks.specs.Events.{at, owedIn, finishOf}
 use Rattle.edf.proofs.Looking.{write-start, write-more, write-done}
 use Rattle.edf.proofs.runs.write_finishes.Statement.{statement}
 use Rattle.edf.proofs.runs.write_finishes.Tie as tie

@@ -10,7 +10,7 @@ use native.Mathlib.Omega.{arith}
 use lib.ListN.{length, getD, drop}
 use Rattle.lists.specs.Order.{reversed, ahead}
 use Rattle.lists.proofs.Cases.{split, clash}
-use Rattle.olda.specs.Rules.{lower}
+use Rattle.rules.specs.Rules.{lower}
 use Rattle.lists.proofs.Members.{every-at}
 use Rattle.olda.proofs.Chosen.{choose-first, ahead-yes, ahead-no, ahead-end, lower-bound, lower-tie, lower-not}
 use Rattle.olda.proofs.choosing.base_job.Statement.{statement}

@@ -6,7 +6,7 @@ use Prim.Native.Nat.{ℕ}
 use lib.ListN.{getD}
 use Rattle.subjobs.specs.Sets.{subjobs}
 use Rattle.olda.specs.Answers.{report}
-use Rattle.olda.specs.Method.{method}
+use Rattle.rules.specs.Method.{method}
 use Rattle.olda.proofs.Reports.{answered}
 use Rattle.olda.proofs.fitting.assign_fit.Statement.{statement}
 use Rattle.olda.proofs.fitting.assign_fit.Tie as tie

@@ -9,7 +9,7 @@ use mir.Facts.{toZ-ofZ}
 use Rattle.subjobs.specs.Sets.{subjobs}
 use Rattle.subjobs.specs.declared.Reason.the-variants.{Late}
 use Rattle.subjobs.specs.declared.Judgement.the-variants.{Refused}
-use Rattle.olda.specs.Method.{method}
+use Rattle.rules.specs.Method.{method}
 use Rattle.olda.proofs.Raised.{Raised}
 use Rattle.olda.proofs.Reports.{method-raised, bound-raised}
 use Rattle.olda.proofs.fitting.place_in.Statement.{statement}

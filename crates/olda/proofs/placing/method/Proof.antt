@@ -2,8 +2,8 @@
 use borrow.Author.Needs.{needs}
 use Prim.Native.Nat.{ℕ}
 use lib.ListN.{length, getD}
-use Rattle.olda.proofs.AllPlaces.{in-order-below}
-use Rattle.olda.proofs.ReleaseOrder.{nodup-inOrder}
+use Rattle.rules.proofs.AllPlaces.{in-order-below}
+use Rattle.rules.proofs.ReleaseOrder.{nodup-inOrder}
 use Rattle.olda.proofs.placing.method.Statement.{statement}
 use Rattle.olda.proofs.placing.method.Tie as tie
 

@@ -12,8 +12,8 @@ use Rattle.lists.specs.Order.{reversed, choose}
 use Rattle.lists.specs.Places.{Every, Nodup}
 use Rattle.lists.proofs.Mapped.{part-within}
 use Rattle.lists.proofs.Members.{every-at, every-drop, every-more}
-use Rattle.olda.specs.Method.{Outcome, placed, stuck, best, base, steps}
-use Rattle.olda.specs.Rules.{lower}
+use Rattle.rules.specs.Method.{Outcome, placed, stuck, best, base, steps}
+use Rattle.rules.specs.Rules.{lower}
 use Rattle.olda.specs.Held.{completions}
 use Rattle.olda.specs.declared.placing.Placing.the-variants.{Placed, Stuck}
 use Rattle.olda.proofs.Held.{enough, leaves, fit-some, fit-most}

@@ -4,7 +4,7 @@ use mathlib.Core.Path.{_≡_, ap, _∙_}
 use native.Mathlib.Omega.{arith}
 use lib.ListN.{length}
 use Rattle.subjobs.specs.Sets.{Subjobs, subjobs}
-use Rattle.edf.specs.Answers as edf
+use Rattle.ticks.specs.Runs as ticks
 use Rattle.table.specs.Answers.{accepted}
 use Rattle.table.proofs.Stored.{then}
 use Rattle.table.proofs.Outcomes.{fits, sound-length, in-time, run-finishes, run-length}
@@ -20,7 +20,7 @@ Set o =
 finished :
     (c : tie.After-simulate)
     → let o = c .before .before .before .before .before .before .before .before .before .before .before in
-    c .simulate .last .1 .1 .1 .1 .1 .1 .1 .1 .0 ≡ edf.run (Set o) (o .args .local .now) (o .args .executions .now) .finishes
+    c .simulate .last .1 .1 .1 .1 .1 .1 .1 .1 .0 ≡ ticks.run (Set o) (o .args .local .now) (o .args .executions .now) .finishes
 finished c =
     let o = c .before .before .before .before .before .before .before .before .before .before .before in
     c .simulate .ensures .1 ∙ run-finishes (Set o) (o .args .local .now) (o .pre .0) (o .args .finishes .now) (o .pre .1)

@@ -1,4 +1,0 @@
-// The table program, run on nothing.
-fn main() {
-    desk::serve();
-}

@@ -1,4 +1,0 @@
-// The table program, run on the header alone, without its CR LF.
-fn main() {
-    desk::serve();
-}

@@ -1,0 +1,25 @@
+-- Sets on which a wrong rule shows, computed by the method: blocks that touch, equal bounds, a negative bound, a bound
+-- that is just met and one that is just missed.
+use Prim.Native.Nat.{ℕ}
+use mathlib.Core.List.{List, [], _∷_}
+use mathlib.Core.Path.{_≡_, refl}
+use lib.ListN.{length, replicate}
+use Rattle.lists.specs.Places.{from, filter, weight}
+use Rattle.lists.specs.Order.{ahead, choose}
+use Rattle.subjobs.specs.Sets.{Subjobs, subjobs}
+use Rattle.rules.specs.Method.{insert, inOrder, best, base, Outcome, placed, stuck, steps, method}
+
+-- jobs 1, 2, .. with these releases, executions, deadlines and critical times
+abbrev set : (rs cs ds zs : List ℕ) → Subjobs
+set rs cs ds zs = subjobs (from 1 (length rs)) (replicate (length rs) 1) rs cs ds zs
+
+-- Two blocks that touch are not joined; of equal bounds the latest in the list is taken first; a bound below zero is not
+-- cut off; a bound equal to the completion is met, one below it is not.
+pub edges :
+    (method (set (0 ∷ 4 ∷ []) (4 ∷ 3 ∷ []) (20 ∷ 10 ∷ []) (0 ∷ 0 ∷ [])) ≡ placed (4 ∷ 7 ∷ []))
+    × (method (set (0 ∷ 0 ∷ []) (2 ∷ 3 ∷ []) (9 ∷ 9 ∷ []) (0 ∷ 0 ∷ [])) ≡ placed (2 ∷ 5 ∷ []))
+    × (method (set (0 ∷ []) (1 ∷ []) (3 ∷ []) (5 ∷ [])) ≡ stuck 0 1)
+    × (method (set (0 ∷ []) (1 ∷ []) (1 ∷ []) (0 ∷ [])) ≡ placed (1 ∷ []))
+    × (method (set (0 ∷ 1 ∷ []) (3 ∷ 1 ∷ []) (3 ∷ 2 ∷ []) (0 ∷ 0 ∷ [])) ≡ stuck 0 4)
+unfolding from filter weight ahead choose insert inOrder best base steps method
+edges = (refl, refl, refl, refl, refl)

@@ -1,0 +1,9 @@
+pub mod Tails
+pub mod Falls
+pub mod Gap
+pub mod ReleaseOrder
+pub mod Rules
+pub mod Obeys
+pub mod Accepted
+pub mod AllPlaces
+pub mod Edges

@@ -1,0 +1,12 @@
+pub mod Service
+pub mod Jumps
+pub mod Counted
+pub mod Ends
+pub mod Turns
+pub mod Ticks
+pub mod Groups
+pub mod Finishes
+pub mod Keeps
+pub mod Converse
+pub mod Alone
+pub mod Edges
