@@ -1,8 +1,10 @@
 -- The loops over the places, one turn after the other: the search for the one to serve goes up with what it found so far,
 -- the least and the greatest are gathered from the last place down, the result list is written from the first place on.
 --
---   found n b       == the place b of n, nobody if b is n
---   onward lt q xs  == the choice among xs after q was found
+--   found n b            == the place b of n, nobody if b is n
+--   onward lt q xs       == the choice among xs after q was found
+--   Looking lt U n b i   == after i of n places b is what was found of those that U picks
+--   Writing f n out i    == out holds f of the first i of n places
 use Prim.Native.Nat.{ℕ, suc, _+_, _-_, _≤_, _<_, min, max}
 use mathlib.Core.Bool.{Bool, true, false, cond}
 use mathlib.Core.List.{List, [], _∷_, _++_, map, append-assoc, append-nil, List·Memᴰ}
@@ -13,7 +15,7 @@ use native.Mathlib.Numerals.{add-one}
 use native.Mathlib.Omega.{arith}
 use borrow.Author.Tests.{lt-ltb, le-ltb, ne-eqb}
 use lib.Dec.{ltb, eqb}
-use lib.ListN.{length, set, take}
+use lib.ListN.{length, set, take, length-set}
 use lib.Seq.{take-suc-set, take-all}
 use Rattle.lists.specs.Places.{from, filter, least, greatest}
 use Rattle.lists.specs.Order.{ahead, choose, given}
@@ -46,50 +48,48 @@ module _ (lt : ℕ → ℕ → Bool) (b x : ℕ) (xs : List ℕ) where
   unfolding ahead
   ahead-stays e = rw e
 
-module _ (lt : ℕ → ℕ → Bool) (U : ℕ → Bool) (n : ℕ) where
-  pub look-start : onward lt (found n n) (filter U (from 0 (n - 0))) ≡ choose lt (filter U (from 0 n))
-  look-start = rw (sub-zero n, le-ltb n n (omega arith))
+-- At place i of n, with b found so far, what is left decides the whole choice.
+pub record Looking (lt : ℕ → ℕ → Bool) (U : ℕ → Bool) (n b i : ℕ) : Type 0 where
+  pub place : i ≤ n
+  pub best : b ≤ n
+  pub choice : onward lt (found n b) (filter U (from i (n - i))) ≡ choose lt (filter U (from 0 n))
 
-  pub look-done :
-      (b i : ℕ) → n ≤ i → b ≤ n → onward lt (found n b) (filter U (from i (n - i))) ≡ choose lt (filter U (from 0 n))
-      → b ≡ given (choose lt (filter U (from 0 n))) n (λ p. p)
+pub look-start : (lt : ℕ → ℕ → Bool) (U : ℕ → Bool) (n : ℕ) → Looking lt U n n 0
+look-start lt U n = record { place = omega arith; best = omega arith; choice = rw (sub-zero n, le-ltb n n (omega arith)) }
+
+module _ {lt : ℕ → ℕ → Bool} {U : ℕ → Bool} {n b i : ℕ} (K : Looking lt U n b i) where
+  pub look-done : n ≤ i → b ≡ given (choose lt (filter U (from 0 n))) n (λ p. p)
   unfolding choose ahead
-  look-done b i h l e =
+  look-done h =
       let nothing : filter U (from i (n - i)) ≡ [] = ap (filter U) (from-done n i h) ∙ filter-nil U in
-      let q = rw nothing at e in
+      let q = rw nothing at (K .choice) in
       test (ltb b n)
       (λ t. rw (← q, t))
-      (λ t. let z : b ≡ n = omega tests in rw (← q, t) z)
+      (λ t. let z : b ≡ n = omega (tests, K .best) in rw (← q, t) z)
 
-  module _ (b i : ℕ) (h : i < n) where
-    pub look-skip :
-        U i ≡ false
-        → onward lt (found n b) (filter U (from i (n - i))) ≡ onward lt (found n b) (filter U (from (i + 1) (n - (i + 1))))
+  module _ (h : i < n) where
+    onto :
+        (b′ : ℕ) → b′ ≤ n
+        → onward lt (found n b) (filter U (from i (n - i))) ≡ onward lt (found n b′) (filter U (from (i + 1) (n - (i + 1))))
+        → Looking lt U n b′ (i + 1)
+    onto b′ l e = record { place = omega arith; best = l; choice = sym e ∙ K .choice }
+
+    pub look-skip : U i ≡ false → Looking lt U n b (i + 1)
     unfolding filter
-    look-skip u = rw (from-step n i h, u)
+    look-skip u = onto b (K .best) (rw (from-step n i h, u))
 
-    pub look-first :
-        U i ≡ true
-        → b ≡ n
-        → onward lt (found n b) (filter U (from i (n - i))) ≡ onward lt (found n i) (filter U (from (i + 1) (n - (i + 1))))
+    pub look-first : U i ≡ true → b ≡ n → Looking lt U n i (i + 1)
     unfolding filter choose
-    look-first u e = rw (from-step n i h, u, le-ltb b n (omega arith), lt-ltb i n h)
+    look-first u e = onto i (omega arith) (rw (from-step n i h, u, le-ltb b n (omega arith), lt-ltb i n h))
 
-    pub look-better :
-        U i ≡ true
-        → b < n
-        → lt i b ≡ true
-        → onward lt (found n b) (filter U (from i (n - i))) ≡ onward lt (found n i) (filter U (from (i + 1) (n - (i + 1))))
+    pub look-better : U i ≡ true → b < n → lt i b ≡ true → Looking lt U n i (i + 1)
     unfolding filter
-    look-better u l e = rw (from-step n i h, u, lt-ltb b n l, lt-ltb i n h) (ap some (ahead-takes lt b i _ e))
+    look-better u l e =
+        onto i (omega arith) (rw (from-step n i h, u, lt-ltb b n l, lt-ltb i n h) (ap some (ahead-takes lt b i _ e)))
 
-    pub look-worse :
-        U i ≡ true
-        → b < n
-        → lt i b ≡ false
-        → onward lt (found n b) (filter U (from i (n - i))) ≡ onward lt (found n b) (filter U (from (i + 1) (n - (i + 1))))
+    pub look-worse : U i ≡ true → b < n → lt i b ≡ false → Looking lt U n b (i + 1)
     unfolding filter
-    look-worse u l e = rw (from-step n i h, u, lt-ltb b n l) (ap some (ahead-stays lt b i _ e))
+    look-worse u l e = onto b (K .best) (rw (from-step n i h, u, lt-ltb b n l) (ap some (ahead-stays lt b i _ e)))
 
 -- The least of some numbers above 0, where 0 stands for none.
 least-more :
@@ -136,20 +136,27 @@ module _ (n i j : ℕ) (up : suc j ≡ i) (h : i ≤ n) where
   greatest-more f U =
       split (filter-cases U j (from i (n - i))) (λ q. rw (from-back, q .1, q .0)) (λ q. rw (from-back, q .1, q .0))
 
-module _ (f : ℕ → ℕ) (n : ℕ) where
-  pub write-start : (out : List ℕ) → take 0 out ++ map f (from 0 (n - 0)) ≡ map f (from 0 n)
-  write-start out = rw (sub-zero n)
+-- At place i of n, what is written and what is left to write are the whole list.
+pub record Writing (f : ℕ → ℕ) (n : ℕ) (out : List ℕ) (i : ℕ) : Type 0 where
+  pub room : length out ≡ n
+  pub place : i ≤ n
+  pub whole : take i out ++ map f (from i (n - i)) ≡ map f (from 0 n)
 
-  pub write-more :
-      (out : List ℕ) (i : ℕ) → length out ≡ n → i < n
-      → take (i + 1) (set out i (f i)) ++ map f (from (i + 1) (n - (i + 1))) ≡ take i out ++ map f (from i (n - i))
-  write-more out i e h =
-      let l : i < length out = omega arith in
-      let q : take (i + 1) (set out i (f i)) ≡ take i out ++ (f i ∷ []) = rw add-one (take-suc-set out i (f i) l) in
-      rw (q, from-step n i h, append-assoc)
+pub write-start : (f : ℕ → ℕ) (out : List ℕ) → Writing f (length out) out 0
+write-start f out = record { room = refl; place = omega arith; whole = rw (sub-zero (length out)) }
 
-  pub write-done :
-      (out : List ℕ) (i : ℕ) → length out ≡ n → n ≤ i → take i out ++ map f (from i (n - i)) ≡ map f (from 0 n) → out ≡ map f (from 0 n)
-  write-done out i e h q =
-      let full : take i out ≡ out = take-all i out (omega arith) in
-      sym (append-nil out) ∙ rw (full, from-done n i h) at q
+module _ {f : ℕ → ℕ} {n : ℕ} {out : List ℕ} {i : ℕ} (W : Writing f n out i) where
+  pub write-more : i < n → (a : ℕ) → a ≡ f i → Writing f n (set out i a) (i + 1)
+  write-more h a e =
+      let l : i < length out = omega (arith, W .room) in
+      let q : take (i + 1) (set out i a) ≡ take i out ++ (f i ∷ []) = rw (add-one, e) (take-suc-set out i (f i) l) in
+      record {
+        room = simp length-set (W .room);
+        place = omega arith;
+        whole = rw (q, append-assoc) (rw (from-step n i h) at (W .whole));
+      }
+
+  pub write-done : n ≤ i → out ≡ map f (from 0 n)
+  write-done h =
+      let full : take i out ≡ out = take-all i out (omega (arith, W .room)) in
+      sym (append-nil out) ∙ rw (full, from-done n i h) at (W .whole)

@@ -48,7 +48,10 @@ pub fn simulate(
     finishes: &mut [u32],
     totals: Totals,
 ) -> Simulated
-    ensures { λ r. ⌜ Simulates (subjobs (now (jobs .entry)) (now (subtasks .entry)) (now (releases .entry)) (now (executions .entry)) (now (deadlines .entry)) (now (criticals .entry))) (now (local .entry)) (now (asks .entry)) (now (finishes .entry)) totals r (now (finishes .exit)) ⌝ }
+    ensures { λ r. ⌜ Simulates
+        (subjobs (now (jobs .entry)) (now (subtasks .entry)) (now (releases .entry)) (now (executions .entry))
+        (now (deadlines .entry)) (now (criticals .entry)))
+        (now (local .entry)) (now (asks .entry)) (now (finishes .entry)) totals r (now (finishes .exit)) ⌝ }
 {
     let n = jobs.len();
     let others = (local.len() == n) & (asks.len() == n) & (finishes.len() == n);
@@ -86,7 +89,11 @@ pub fn run(
     finishes: &mut [u32],
     totals: &mut Totals,
 ) -> Answer
-    ensures { λ r. ⌜ Runs (subjobs (now (jobs .entry)) (now (subtasks .entry)) (now (releases .entry)) (now (executions .entry)) (now (deadlines .entry)) (now (criticals .entry))) (now (local .entry)) (now (asks .entry)) (now (finishes .entry)) (now (totals .entry)) r (now (totals .exit)) (now (finishes .exit)) ⌝ }
+    ensures { λ r. ⌜ Runs
+        (subjobs (now (jobs .entry)) (now (subtasks .entry)) (now (releases .entry)) (now (executions .entry))
+        (now (deadlines .entry)) (now (criticals .entry)))
+        (now (local .entry)) (now (asks .entry)) (now (finishes .entry)) (now (totals .entry))
+        r (now (totals .exit)) (now (finishes .exit)) ⌝ }
 {
     let simulated = simulate(
         jobs,

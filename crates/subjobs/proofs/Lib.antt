@@ -1,5 +1,5 @@
 pub mod Searching
-pub mod Lengths
+pub mod Exactly
 pub mod Fit
 pub mod Reported
 pub mod Differences

@@ -1,6 +1,6 @@
--- The refusal of the smallest place, one place after the other.
+-- The refusal of the smallest place, one place after the other: what a loop holds is that the places left decide as all do.
 use Prim.Native.Nat.{ℕ, zero, suc, _+_, _-_, _<_, _≤_}
-use mathlib.Core.Path.{_≡_, refl}
+use mathlib.Core.Path.{_≡_, refl, sym, ap, _∙_}
 use native.Mathlib.Numerals.{add-one}
 use native.Mathlib.Omega.{arith}
 use Rattle.lists.proofs.Count.{left-more, left-none}
@@ -16,6 +16,14 @@ module _ (J : ℕ → Judgement) (n i : ℕ) where
   pub refusal-done : n ≤ i → refusalFrom J (n - i) i ≡ Passed
   unfolding refusalFrom
   refusal-done h = rw (left-none n i h)
+
+-- The same for what a loop holds: after a turn at place i, and at the end.
+module _ (J : ℕ → Judgement) (n i : ℕ) {all : Judgement} (held : refusalFrom J (n - i) i ≡ all) where
+  pub refusal-turn : {j : Judgement} → i < n → J i ≡ j → orElse j (refusalFrom J (n - (i + 1)) (i + 1)) ≡ all
+  refusal-turn {j} h e = ap (λ (a : Judgement). orElse a (refusalFrom J (n - (i + 1)) (i + 1))) (sym e) ∙ sym (refusal-step J n i h) ∙ held
+
+  pub refusal-end : n ≤ i → Passed ≡ all
+  refusal-end h = sym (refusal-done J n i h) ∙ held
 
 -- A search may start behind a first place that passes.
 pub refusal-second : (J : ℕ → Judgement) (n : ℕ) → J 0 ≡ Passed → refusalFrom J (n - 1) 1 ≡ refusalFrom J n 0

@@ -11,7 +11,8 @@ use Rattle.subjobs.specs.declared.Judgement.{Judgement}
 use Rattle.subjobs.specs.declared.Judgement.the-variants as judgement
 use Rattle.subjobs.specs.Sets.{Subjobs, size, release, execution, deadline, critical}
 use Rattle.subjobs.specs.Judging.{judgement as judged, ifPassed}
-use Rattle.subjobs.proofs.Fit.{Fit, fit, refused-passed}
+use Rattle.subjobs.specs.Faults.{Fit}
+use Rattle.subjobs.proofs.Fit.{fit, refused-passed}
 use Rattle.olda.specs.declared.Answer.the-variants as olda-answer
 use Rattle.rules.specs.Method.{Outcome, placed, stuck, method}
 use Rattle.olda.specs.Answers as olda

@@ -1,7 +1,6 @@
 -- `check` meets its contract: each return is the first of the three judgements that refuses, or none does.
 use borrow.Author.Needs.{needs}
 use Prim.Native.Nat.{ℕ}
-use mathlib.Core.Bool.{Bool}
 use mathlib.Core.List.{List}
 use mathlib.Core.Path.{_≡_, sym, _∙_}
 use borrow.Author.Tests.{eqb-true}
@@ -9,32 +8,33 @@ use lib.Dec.{eqb}
 use lib.ListN.{length}
 use Rattle.subjobs.specs.declared.Judgement.the-variants.{Passed}
 use Rattle.subjobs.specs.Sets.{Subjobs, subjobs, size}
-use Rattle.subjobs.specs.Judging.{judgement}
-use Rattle.subjobs.proofs.Fit.{Fit, fit}
-use Rattle.checker.specs.Answers.{six, answer}
+use Rattle.subjobs.specs.Faults.{OneLength}
+use Rattle.subjobs.proofs.Fit.{fit}
+use Rattle.checker.specs.Answers.{judged, six, answer}
 use Rattle.checker.proofs.check.Statement.{statement}
 use Rattle.checker.proofs.check.Tie as tie
 
+-- The set, and the proposed deadlines.
+abbrev Given : tie.After-judge → tie.Start
+Given c = c .before .before .before .before .before .before .before .before
+
 abbrev Set : tie.After-judge → Subjobs
 Set c =
-    let a = c .before .before .before .before .before .before .before .before .args in
+    let a = Given c .args in
     subjobs (a .jobs .now) (a .subtasks .now) (a .releases .now) (a .executions .now) (a .deadlines .now) (a .criticals .now)
 
 abbrev Proposed : tie.After-judge → List ℕ
-Proposed c = c .before .before .before .before .before .before .before .before .args .proposed .now
+Proposed c = Given c .args .proposed .now
 
-abbrev Others : tie.After-judge → Bool
-Others c = eqb (length (Proposed c)) (size (Set c))
-
-passed : (c : tie.After-enum-told) → judgement (Set (c .before .before)) (Others (c .before .before)) ≡ Passed
+passed : (c : tie.After-enum-told) → judged (Set (c .before .before)) (Proposed (c .before .before)) ≡ Passed
 passed c = sym (c .before .before .judge .ensures) ∙ c .enum-told .given .1
 
-known : (c : tie.After-enum-told) → Fit (Set (c .before .before)) (Others (c .before .before))
-known c = fit (Set (c .before .before)) (Others (c .before .before)) (passed c)
+known : (c : tie.After-enum-told) → OneLength (Set (c .before .before)) (eqb (length (Proposed (c .before .before))) (size (Set (c .before .before))))
+known c = fit _ _ (passed c) .lengths
 
 -- What (6) says, counted by the set's size.
 met : (c : tie.After-six) → six (Set (c .before .before .before)) (Proposed (c .before .before .before)) ≡ c .six .result
-met c = sym (c .six .ensures ∙ rw (known (c .before) .lengths .releases))
+met c = sym (c .six .ensures ∙ rw (known (c .before) .releases))
 
 judge-requires : tie.Need-judge-requires
 judge-requires c κs = search needs
@@ -51,12 +51,13 @@ enum-told c = search needs
 
 six-requires : tie.Need-six-requires
 six-requires c κs =
-    let l = known c .lengths in (
-      l .executions ∙ sym (l .releases),
-      l .deadlines ∙ sym (l .releases),
-      l .criticals ∙ sym (l .releases),
-      eqb-true _ _ (l .further) ∙ sym (l .releases),
-    )
+    let l = known c in
+    record {
+      executions = l .executions ∙ sym (l .releases);
+      deadlines = l .deadlines ∙ sym (l .releases);
+      criticals = l .criticals ∙ sym (l .releases);
+      proposed = eqb-true _ _ (l .further) ∙ sym (l .releases);
+    }
 
 enum-known-met : tie.Need-enum-known-met
 enum-known-met c = search needs
@@ -74,7 +75,7 @@ slice-aggregate-seven : tie.Need-slice-aggregate-seven
 slice-aggregate-seven c = search needs
 
 seven-requires : tie.Need-seven-requires
-seven-requires c κs = (passed (c .before .before .before .before), search needs)
+seven-requires c κs = record { passed = passed (c .before .before .before .before); room = search needs }
 
 enum-known-kept : tie.Need-enum-known-kept
 enum-known-kept c = search needs

@@ -6,7 +6,8 @@ use lib.Dec.{eqb}
 use lib.ListN.{length}
 use Rattle.subjobs.specs.declared.Judgement.the-variants.{Passed}
 use Rattle.subjobs.specs.Sets.{Subjobs, subjobs, size}
-use Rattle.subjobs.proofs.Fit.{Fit, fit}
+use Rattle.subjobs.specs.Faults.{Fit}
+use Rattle.subjobs.proofs.Fit.{fit}
 use Rattle.olda.specs.Answers.{answer, results}
 use borrow.Author.Needs.{needs}
 use Rattle.olda.proofs.assign.Statement.{statement}

@@ -2,23 +2,19 @@
 use borrow.Author.Needs.{needs}
 use Prim.Native.Nat.{ℕ, _+_, _≤_, _-_}
 use mathlib.Core.Path.{_≡_, sym, _∙_}
-use mathlib.Core.List.{List}
-use lib.ListN.{length, getD}
+use lib.ListN.{length}
 use native.Mathlib.Nat.{sub-zero}
 use Rattle.subjobs.specs.declared.Judgement.{Judgement}
 use Rattle.subjobs.specs.Judging.{orElse, refusalFrom}
 use Rattle.subjobs.proofs.Searching.{refusal-step, refusal-done}
-use Rattle.checker.specs.Answers.{sixAt}
+use Rattle.checker.specs.Parts.{sixIn}
 use Rattle.checker.proofs.conditions.six.Statement.{statement}
 use Rattle.checker.proofs.conditions.six.Tie as tie
 
--- What is said of the place i.
-abbrev At : List ℕ → List ℕ → List ℕ → List ℕ → List ℕ → ℕ → Judgement
-At releases executions deadlines criticals proposed i =
-    sixAt i (getD releases i 0) (getD executions i 0) (getD deadlines i 0) (getD criticals i 0) (getD proposed i 0)
-
 abbrev Inv-loop : tie.InvT-loop
-Inv-loop releases executions deadlines criticals proposed i₀ i = (i ≤ length releases) × (refusalFrom (At releases executions deadlines criticals proposed) (length releases - i) i ≡ refusalFrom (At releases executions deadlines criticals proposed) (length releases) 0)
+Inv-loop releases executions deadlines criticals proposed i₀ i =
+    let J = sixIn releases executions deadlines criticals proposed in
+    (i ≤ length releases) × (refusalFrom J (length releases - i) i ≡ refusalFrom J (length releases) 0)
 
 abbrev μ-loop : tie.MeasureT-loop
 μ-loop releases executions deadlines criticals proposed i₀ i = length releases - i
@@ -29,7 +25,7 @@ loop-holds c = (search needs, simp sub-zero)
 abbrev Here : tie.At-loop Inv-loop μ-loop → ℕ → Judgement
 Here L =
     let A = L .before .before .before .before .before .before .args in
-    At (A .releases .now) (A .executions .now) (A .deadlines .now) (A .criticals .now) (A .proposed .now)
+    sixIn (A .releases .now) (A .executions .now) (A .deadlines .now) (A .criticals .now) (A .proposed .now)
 
 -- The whole search at a turn: what is said of i, and what is left.
 here :

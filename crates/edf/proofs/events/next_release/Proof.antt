@@ -4,22 +4,25 @@ use Prim.Native.Nat.{_≤_, _-_}
 use mathlib.Core.Path.{_≡_, _∙_}
 use native.Mathlib.Omega.{arith}
 use native.Mathlib.Nat.{sub-zero}
-use lib.Dec.{ltb}
 use lib.ListN.{length}
-use Rattle.lists.specs.Places.{from, filter, least}
-use Rattle.ticks.specs.Events.{at}
+use Rattle.lists.specs.Places.{from}
+use Rattle.ticks.specs.Events.{nextRelease}
+use Rattle.edf.specs.Parts.{at}
 use Rattle.edf.proofs.Looking.{next-none, next-more}
 use Rattle.edf.proofs.events.next_release.Statement.{statement}
 use Rattle.edf.proofs.events.next_release.Tie as tie
 
 abbrev Inv-loop : tie.InvT-loop
-Inv-loop releases t next₀ i₀ next i = (i ≤ length releases) × (next ≡ least (at releases) (filter (λ k. ltb t (at releases k)) (from i (length releases - i))))
+Inv-loop releases t next₀ i₀ next i =
+    (i ≤ length releases) × (next ≡ nextRelease (at releases) (from i (length releases - i)) t)
 
 abbrev μ-loop : tie.MeasureT-loop
 μ-loop releases t next₀ i₀ next i = i
 
 loop-holds : tie.Need-loop-holds Inv-loop μ-loop
-loop-holds c = (search needs, next-none (at (c .before .args .releases .now)) (length (c .before .args .releases .now)) (c .before .args .t))
+loop-holds c =
+    let A = c .before .args in
+    (search needs, next-none (at (A .releases .now)) (length (A .releases .now)) (A .t))
 
 sub-i : tie.Need-sub-i Inv-loop μ-loop
 sub-i c = search needs
@@ -42,7 +45,8 @@ loop-again c =
     let A = L .before .before .args in (
       search needs,
       c .nearer .ensures
-          ∙ rw (L .loop .inv .1) (next-more (length (A .releases .now)) (L .loop .i) (L .loop .i - 1) (omega arith) (L .loop .inv .0) (at (A .releases .now)) (A .t)),
+          ∙ rw (L .loop .inv .1)
+          (next-more (length (A .releases .now)) (L .loop .i) (L .loop .i - 1) (omega arith) (L .loop .inv .0) (at (A .releases .now)) (A .t)),
     )
 
 returns : tie.Need-returns Inv-loop μ-loop

@@ -9,7 +9,7 @@ use native.Mathlib.Nat.{sub-zero}
 use lib.Dec.{ltb}
 use lib.ListN.{length}
 use Rattle.lists.specs.Places.{from, filter, greatest}
-use Rattle.ticks.specs.Events.{at, owedIn}
+use Rattle.edf.specs.Parts.{at, owedIn}
 use Rattle.edf.proofs.Looking.{greatest-none, greatest-more}
 use Rattle.edf.proofs.runs.end_of.Statement.{statement}
 use Rattle.edf.proofs.runs.end_of.Tie as tie
