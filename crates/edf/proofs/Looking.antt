@@ -4,8 +4,10 @@
 --   found n b            == the place b of n, nobody if b is n
 --   onward lt q xs       == the choice among xs after q was found
 --   Looking lt U n b i   == after i of n places b is what was found of those that U picks
+--   Nearest r t n x i    == x is the next release after t of the places from i on
+--   Greatest f U n x i   == x is the greatest f of the places from i on that U picks
 --   Writing f n out i    == out holds f of the first i of n places
-use Prim.Native.Nat.{ℕ, suc, _+_, _-_, _≤_, _<_, min, max}
+use Prim.Native.Nat.{ℕ, _+_, _-_, _≤_, _<_, min, max}
 use mathlib.Core.Bool.{Bool, true, false, cond}
 use mathlib.Core.List.{List, [], _∷_, _++_, map, append-assoc, append-nil, List·Memᴰ}
 use mathlib.Core.Option.{Option, none, some}
@@ -17,12 +19,13 @@ use borrow.Author.Tests.{lt-ltb, le-ltb, ne-eqb}
 use lib.Dec.{ltb, eqb}
 use lib.ListN.{length, set, take, length-set}
 use lib.Seq.{take-suc-set, take-all}
-use Rattle.lists.specs.Places.{from, filter, least, greatest}
+use Rattle.lists.specs.Places.{from, places, filter, least, greatest}
 use Rattle.lists.specs.Order.{ahead, choose, given}
 use Rattle.lists.proofs.Cases.{split, test, tests}
 use Rattle.lists.proofs.Count.{left-more, left-none}
 use Rattle.lists.proofs.Members.{filter-in, filter-cases, filter-nil}
 use Rattle.lists.proofs.Sums.{least-in}
+use Rattle.ticks.specs.Events.{nextRelease}
 
 from-step : (n i : ℕ) → i < n → from i (n - i) ≡ i ∷ from (i + 1) (n - (i + 1))
 unfolding from
@@ -101,40 +104,61 @@ least-more f x (y ∷ ys) h =
     let w = least-in f (y ∷ ys) (λ e. let z : _≡_ {A = ℕ} 0 1 = cc in omega arith) in
     rw (ne-eqb (least f (y ∷ ys)) 0 (λ e. omega (arith, h (w .0) (w .1), w .2)))
 
-pub next-none : (r : ℕ → ℕ) (n t : ℕ) → 0 ≡ least r (filter (λ k. ltb t (r k)) (from n (n - n)))
-unfolding least filter
-next-none r n t = rw (from-done n n (omega arith))
+-- From the last place down to i: x is the next release after t of those looked at, or the greatest of those that U picks.
+pub record Nearest (r : ℕ → ℕ) (t n x i : ℕ) : Type 0 where
+  pub place : i ≤ n
+  pub is : x ≡ nextRelease r (from i (n - i)) t
 
-pub greatest-none : (f : ℕ → ℕ) (U : ℕ → Bool) (n : ℕ) → 0 ≡ greatest f (filter U (from n (n - n)))
-unfolding greatest filter
-greatest-none f U n = rw (from-done n n (omega arith))
+pub record Greatest (f : ℕ → ℕ) (U : ℕ → Bool) (n x i : ℕ) : Type 0 where
+  pub place : i ≤ n
+  pub is : x ≡ greatest f (filter U (from i (n - i)))
 
-module _ (n i j : ℕ) (up : suc j ≡ i) (h : i ≤ n) where
-  from-back : from j (n - j) ≡ j ∷ from i (n - i)
-  from-back = from-step n j (omega arith) ∙ ap (λ (k : ℕ). j ∷ from k (n - k)) (add-one j ∙ up)
+pub nearest-start : (r : ℕ → ℕ) (t n : ℕ) → Nearest r t n 0 n
+nearest-start r t n = record { place = omega arith; is = unfold least filter in rw (from-done n n (omega arith)) }
 
-  pub next-more :
-      (r : ℕ → ℕ) (t : ℕ)
-      → let x = least r (filter (λ k. ltb t (r k)) (from i (n - i))) in
-      cond (ltb t (r j)) (cond (eqb x 0) (r j) (min (r j) x)) x ≡ least r (filter (λ k. ltb t (r k)) (from j (n - j)))
-  next-more r t =
+pub greatest-start : (f : ℕ → ℕ) (U : ℕ → Bool) (n : ℕ) → Greatest f U n 0 n
+greatest-start f U n = record { place = omega arith; is = unfold greatest filter in rw (from-done n n (omega arith)) }
+
+from-back : (n i : ℕ) → 0 < i → i ≤ n → from (i - 1) (n - (i - 1)) ≡ (i - 1) ∷ from i (n - i)
+from-back n i h l =
+    let z : i - 1 + 1 ≡ i = omega arith in
+    from-step n (i - 1) (omega arith) ∙ ap (λ (k : ℕ). (i - 1) ∷ from k (n - k)) z
+
+module _ {r : ℕ → ℕ} {t n x i : ℕ} (N : Nearest r t n x i) where
+  pub nearest-more :
+      0 < i → (y : ℕ) → y ≡ cond (ltb t (r (i - 1))) (cond (eqb x 0) (r (i - 1)) (min (r (i - 1)) x)) x → Nearest r t n y (i - 1)
+  nearest-more h y e =
       let U : ℕ → Bool = λ k. ltb t (r k) in
       let xs = from i (n - i) in
-      split (filter-cases U j xs)
-      (λ q.
-      rw (from-back, q .1, q .0)
-      (sym
-      (least-more r j (filter U xs)
-      (λ k m. let l = filter-in U xs m .1 in omega tests))))
-      (λ q. rw (from-back, q .1, q .0))
+      record {
+        place = omega (arith, N .place);
+        is =
+            e
+            ∙ split (filter-cases U (i - 1) xs)
+            (λ q.
+            rw (from-back n i h (N .place), q .1, q .0, N .is)
+            (sym (least-more r (i - 1) (filter U xs) (λ k m. let l = filter-in U xs m .1 in omega tests))))
+            (λ q. rw (from-back n i h (N .place), q .1, q .0) (N .is));
+      }
 
-  pub greatest-more :
-      (f : ℕ → ℕ) (U : ℕ → Bool)
-      → let x = greatest f (filter U (from i (n - i))) in
-      cond (U j) (max (f j) x) x ≡ greatest f (filter U (from j (n - j)))
+  pub nearest-done : i ≤ 0 → x ≡ nextRelease r (places n) t
+  nearest-done h = let z : i ≡ 0 = omega arith in rw (z, sub-zero) at (N .is)
+
+module _ {f : ℕ → ℕ} {U : ℕ → Bool} {n x i : ℕ} (G : Greatest f U n x i) where
+  pub greatest-more : 0 < i → (y : ℕ) → y ≡ cond (U (i - 1)) (max (f (i - 1)) x) x → Greatest f U n y (i - 1)
   unfolding greatest
-  greatest-more f U =
-      split (filter-cases U j (from i (n - i))) (λ q. rw (from-back, q .1, q .0)) (λ q. rw (from-back, q .1, q .0))
+  greatest-more h y e =
+      record {
+        place = omega (arith, G .place);
+        is =
+            e
+            ∙ split (filter-cases U (i - 1) (from i (n - i)))
+            (λ q. rw (from-back n i h (G .place), q .1, q .0, G .is))
+            (λ q. rw (from-back n i h (G .place), q .1, q .0) (G .is));
+      }
+
+  pub greatest-done : i ≤ 0 → x ≡ greatest f (filter U (places n))
+  greatest-done h = let z : i ≡ 0 = omega arith in rw (z, sub-zero) at (G .is)
 
 -- At place i of n, what is written and what is left to write are the whole list.
 pub record Writing (f : ℕ → ℕ) (n : ℕ) (out : List ℕ) (i : ℕ) : Type 0 where

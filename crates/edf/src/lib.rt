@@ -1,7 +1,7 @@
 // The simulated core: one preemptive core under earliest deadline first, its finishes and its totals.
 //
-// The answer is that of single ticks (specs/Core.antt, specs/Runs.antt, specs/Answers.antt); the program jumps from event
-// to event (specs/Events.antt).
+// The answer (specs/Answers.antt) is that of single ticks (Core and Runs of the crate `ticks`); the program jumps from event
+// to event (Events there). What its parts are held to is said in specs/Parts.antt.
 ghost use Rattle.subjobs.specs.Sets.{subjobs};
 ghost use Rattle.edf.specs.Answers.{Simulates, Runs};
 

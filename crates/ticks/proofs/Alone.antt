@@ -2,6 +2,7 @@
 -- sub-jobs as if they stood on a core of their own, be it under other names and in another order of the list.
 --
 --   Stands M L π == the sub-jobs of M stand on L: i stands there as π i, released, owed and served before others alike
+--   Free M L π   == who is served on L is of M, or nobody of M can be served there in that tick
 use Prim.Native.Nat.{ℕ, zero, suc, _≤_, _<_}
 use mathlib.Core.Bool.{false}
 use mathlib.Core.List.{List, List·Memᴰ}
@@ -12,15 +13,15 @@ use native.Mathlib.Omega.{arith}
 use Rattle.lists.proofs.Cases.{split}
 use Rattle.lists.proofs.Choice.{Order, Total}
 use Rattle.ticks.specs.Core.{Load, served, turn}
-use Rattle.ticks.proofs.Service.{Counters, served-start, turn-cases, served-is-active, served-first, idle-none, tick-cases}
+use Rattle.ticks.proofs.Service.{On, Counters, served-start, turn-cases, served-is-active, served-first, idle-none, tick-cases}
 
 -- An active one is served if no active one comes before it.
 turn-is :
     (L : Load) → Order (L .before) → Total (L .before) (L .on) → (t : ℕ) {b : ℕ}
-    → List·Memᴰ b (L .on)
+    → On L b
     → L .release b ≤ t
     → served L t b < L .owed b
-    → ((i : ℕ) → List·Memᴰ i (L .on) → L .release i ≤ t → served L t i < L .owed i → L .before i b ≡ false)
+    → ((i : ℕ) → On L i → L .release i ≤ t → served L t i < L .owed i → L .before i b ≡ false)
     → turn L t ≡ some b
 turn-is L ord tot t {b} m h k f =
     split (turn-cases L t)
@@ -31,13 +32,19 @@ turn-is L ord tot t {b} m h k f =
     w .1 ∙ ap some q)
 
 pub record Stands (M L : Load) (π : ℕ → ℕ) : Type 0 where
-  pub there : (i : ℕ) → List·Memᴰ i (M .on) → List·Memᴰ (π i) (L .on)
-  pub apart : (i j : ℕ) → List·Memᴰ i (M .on) → List·Memᴰ j (M .on) → π i ≡ π j → i ≡ j
-  pub release : (i : ℕ) → List·Memᴰ i (M .on) → M .release i ≡ L .release (π i)
-  pub owed : (i : ℕ) → List·Memᴰ i (M .on) → M .owed i ≡ L .owed (π i)
-  pub before : (i j : ℕ) → List·Memᴰ i (M .on) → List·Memᴰ j (M .on) → M .before i j ≡ L .before (π i) (π j)
+  pub there : (i : ℕ) → On M i → On L (π i)
+  pub apart : (i j : ℕ) → On M i → On M j → π i ≡ π j → i ≡ j
+  pub release : (i : ℕ) → On M i → M .release i ≡ L .release (π i)
+  pub owed : (i : ℕ) → On M i → M .owed i ≡ L .owed (π i)
+  pub before : (i j : ℕ) → On M i → On M j → M .before i j ≡ L .before (π i) (π j)
 
--- If one outside M is served only while nobody of M can be, all of M are served alike on both.
+abbrev pub Free : (M L : Load) → (ℕ → ℕ) → Type 0
+Free M L π =
+    (t b : ℕ)
+    → turn L t ≡ some b
+    → ((i : ℕ) × On M i × (π i ≡ b)) ⊎ ((i : ℕ) → On M i → L .release (π i) ≤ t → L .owed (π i) ≤ served L t (π i))
+
+-- Then all of M are served alike on both.
 module _
     (M L : Load)
     (π : ℕ → ℕ)
@@ -47,11 +54,9 @@ module _
     (ordM : Order (M .before))
     (ordL : Order (L .before))
     (tot : Total (L .before) (L .on))
-    (free : (t b : ℕ) → turn L t ≡ some b
-        → ((i : ℕ) × List·Memᴰ i (M .on) × (π i ≡ b))
-        ⊎ ((i : ℕ) → List·Memᴰ i (M .on) → L .release (π i) ≤ t → L .owed (π i) ≤ served L t (π i))) where
-  module _ (t : ℕ) (ih : (i : ℕ) → List·Memᴰ i (M .on) → served M t i ≡ served L t (π i)) where
-    turn-to : (b : ℕ) → List·Memᴰ b (M .on) → turn L t ≡ some (π b) → turn M t ≡ some b
+    (free : Free M L π) where
+  module _ (t : ℕ) (ih : (i : ℕ) → On M i → served M t i ≡ served L t (π i)) where
+    turn-to : (b : ℕ) → On M b → turn L t ≡ some (π b) → turn M t ≡ some b
     turn-to b m e =
         let a = served-is-active L t e in
         turn-is M ordM
@@ -78,7 +83,7 @@ module _
         g ∙ ap (λ (i : ℕ). some (π i)) z)
         (λ n. absurd (omega (arith, n b m h))))
 
-  pub served-stands : (t i : ℕ) → List·Memᴰ i (M .on) → served M t i ≡ served L t (π i)
+  pub served-stands : (t i : ℕ) → On M i → served M t i ≡ served L t (π i)
   served-stands zero i m = served-start M i ∙ sym (served-start L (π i))
   served-stands (suc t) i m =
       let ih = served-stands t in
@@ -93,17 +98,18 @@ module _
       (λ q. absurd (p .0 (turn-to t ih i m (q .0))))
       (λ q. omega arith))
 
--- Under their own names: some of the sub-jobs, ys, which the core of their own owes the same.
+-- Under their own names: some of the sub-jobs, ys, on a core of their own that owes them the same.
 abbrev pub alone : Load → (ℕ → ℕ) → List ℕ → Load
 alone L o ys = record { release = L .release; owed = o; before = L .before; on = ys }
 
 pub served-alike :
     (L : Load) (o : ℕ → ℕ) (ys : List ℕ) → Counters (alone L o ys) → Counters L → Order (L .before) → Total (L .before) (L .on)
-    → ((i : ℕ) → List·Memᴰ i ys → List·Memᴰ i (L .on))
+    → ((i : ℕ) → List·Memᴰ i ys → On L i)
     → ((i : ℕ) → List·Memᴰ i ys → o i ≡ L .owed i)
     → ((t b : ℕ) → turn L t ≡ some b → List·Memᴰ b ys ⊎ ((i : ℕ) → List·Memᴰ i ys → L .release i ≤ t → L .owed i ≤ served L t i))
-    → (t i : ℕ) → List·Memᴰ i ys → served (alone L o ys) t i ≡ served L t i
-served-alike L o ys N K ord tot within owed free =
-    served-stands (alone L o ys) L (λ i. i)
-    (record { there = within; apart = λ i j p q e. e; release = λ i m. refl; owed = owed; before = λ i j p q. refl })
-    N K ord ord tot (λ t b e. split (free t b e) (λ m. inl (b, m, refl)) (λ n. inr n))
+    → (t i : ℕ) → List·Memᴰ i ys → served L t i ≡ served (alone L o ys) t i
+served-alike L o ys N K ord tot within owed free t i m =
+    sym
+    (served-stands (alone L o ys) L (λ j. j)
+    (record { there = within; apart = λ j k p q e. e; release = λ j n. refl; owed = owed; before = λ j k p q. refl })
+    N K ord ord tot (λ u b e. split (free u b e) (λ n. inl (b, n, refl)) (λ n. inr n)) t i m)

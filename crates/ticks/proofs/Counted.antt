@@ -15,7 +15,7 @@ use Rattle.lists.proofs.Members.{in-cons, in-nil}
 use Rattle.lists.proofs.Sums.{weight-le, greatest-ge, weight-zero}
 use Rattle.ticks.specs.Core.{Load, Core, start, after, served, turn}
 use Rattle.ticks.specs.Runs.{horizon}
-use Rattle.ticks.proofs.Service.{Counters, after-add, after-served, after-idle, served-start, turn-cases, always, lengths, served-is-active, idle-none, served-grows, served-most, group-tick, group-other}
+use Rattle.ticks.proofs.Service.{On, Counters, after-add, after-served, after-idle, served-start, turn-cases, always, lengths, served-is-active, idle-none, served-grows, served-most, group-tick, group-other}
 use Rattle.ticks.proofs.Jumps.{Quiet, rested, nobody-picked, idles, jump}
 
 -- Where no term grows and one falls, the sum falls.
@@ -30,7 +30,7 @@ weight-lt f g (x ∷ xs) h {p} m l =
 
 module _ (L : Load) where
   abbrev pub Done : ℕ → Type 0
-  Done t = (i : ℕ) → List·Memᴰ i (L .on) → L .owed i ≤ served L t i
+  Done t = (i : ℕ) → On L i → L .owed i ≤ served L t i
 
   pub busy-idle : (t : ℕ) → after L t .busy + after L t .idle ≡ t
   unfolding start

@@ -1,7 +1,6 @@
 -- What is read off the core: by the end of a run all is served, a run's busy ticks are what is owed, and after the end of
 -- the last tick served to a sub-job nothing is served to it.
 use Prim.Native.Nat.{ℕ, zero, suc, _+_, _-_, _≤_, _<_}
-use mathlib.Core.List.{List·Memᴰ}
 use mathlib.Core.Option.{some}
 use mathlib.Core.Path.{_≡_, sym, ap, _∙_}
 use mathlib.Core.Logic.{_⊎_, inl, inr}
@@ -15,7 +14,7 @@ use Rattle.lists.proofs.Members.{in-filter, filter-in}
 use Rattle.lists.proofs.Sums.{greatest-ge, greatest-le}
 use Rattle.ticks.specs.Core.{Load, served, ended, turn}
 use Rattle.ticks.specs.Runs.{horizon, finish, end, busyTicks, idleTicks}
-use Rattle.ticks.proofs.Service.{Counters, served-start, ended-start, tick-cases}
+use Rattle.ticks.proofs.Service.{On, Counters, served-start, ended-start, tick-cases}
 use Rattle.ticks.proofs.Counted.{Done, busy-idle, busy-done, done-horizon}
 
 -- The finish of one that is owed nothing, and of one that is owed something.
@@ -58,14 +57,14 @@ module _ (L : Load) (K : Counters L) where
       let p = filter-in (λ j. ltb 0 (L .owed j)) (L .on) m .1 in
       omega (arith, finish-owed L i (omega tests), ended-most (horizon L) i))
 
-  finish-end : (i : ℕ) → List·Memᴰ i (L .on) → 0 < L .owed i → finish L i ≤ end L
+  finish-end : (i : ℕ) → On L i → 0 < L .owed i → finish L i ≤ end L
   unfolding end
   finish-end i m h =
       greatest-ge (finish L) (filter (λ j. ltb 0 (L .owed j)) (L .on))
       (in-filter (λ j. ltb 0 (L .owed j)) (L .on) m (lt-ltb 0 (L .owed i) h))
 
   -- At any moment from its finish on, and no later than the horizon, a sub-job has been served what it is owed.
-  pub done-finish : (t i : ℕ) → List·Memᴰ i (L .on) → 0 < L .owed i → finish L i ≤ t → t ≤ horizon L → L .owed i ≤ served L t i
+  pub done-finish : (t i : ℕ) → On L i → 0 < L .owed i → finish L i ≤ t → t ≤ horizon L → L .owed i ≤ served L t i
   done-finish t i m h b l =
       let H = horizon L in
       let w : H ≡ t + (H - t) = omega arith in

@@ -3,7 +3,6 @@
 --
 --   LastTick L i f == f is the end of the last tick served to i
 use Prim.Native.Nat.{ℕ, suc, _≤_, _<_}
-use mathlib.Core.List.{List·Memᴰ}
 use mathlib.Core.Logic.{_≢_, _↔_}
 use mathlib.Core.Option.{some}
 use mathlib.Core.Path.{_≡_, sym, _∙_}
@@ -12,7 +11,7 @@ use lib.Dec.{leb, eqb}
 use Rattle.lists.proofs.Cases.{split, test, tests}
 use Rattle.ticks.specs.Core.{Load, served, turn}
 use Rattle.ticks.specs.Runs.{horizon, finish}
-use Rattle.ticks.proofs.Service.{Counters, served-is-active}
+use Rattle.ticks.proofs.Service.{On, Counters, served-is-active}
 use Rattle.ticks.proofs.Counted.{done-horizon}
 use Rattle.ticks.proofs.Ends.{ended-most, last-tick, finish-nothing, finish-owed, done-finish}
 use Rattle.ticks.proofs.Groups.{done-later}
@@ -24,7 +23,7 @@ pub record LastTick (L : Load) (i f : ℕ) : Type 0 where
   pub served : turn L tick ≡ some i
   pub last : (t : ℕ) → f ≤ t → turn L t ≢ some i
 
-module _ (L : Load) (K : Counters L) (i : ℕ) (m : List·Memᴰ i (L .on)) (due : 0 < L .owed i) where
+module _ (L : Load) (K : Counters L) (i : ℕ) (m : On L i) (due : 0 < L .owed i) where
   finish-done : (t : ℕ) → finish L i ≤ t → served L t i ≡ L .owed i
   finish-done t b =
       let soon : finish L i ≤ horizon L = omega (arith, finish-owed L i due, ended-most L K (horizon L) i) in
@@ -61,7 +60,7 @@ module _ (L : Load) (K : Counters L) (i : ℕ) (m : List·Memᴰ i (L .on)) (due
 
 -- Two that are released alike, owed alike and served alike finish alike, be it on two cores.
 pub finish-alike :
-    (L M : Load) → Counters L → Counters M → (i j : ℕ) → List·Memᴰ i (L .on) → List·Memᴰ j (M .on)
+    (L M : Load) → Counters L → Counters M → (i j : ℕ) → On L i → On M j
     → L .release i ≡ M .release j
     → L .owed i ≡ M .owed j
     → ((t : ℕ) → served L t i ≡ served M t j)

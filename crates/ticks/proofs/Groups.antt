@@ -8,7 +8,7 @@
 --   Room t        == what is left at t fits before D: of all the group from t on, of those released later from their release on
 use Prim.Native.Nat.{ℕ, zero, suc, _+_, _-_, _≤_, _<_, max}
 use mathlib.Core.Bool.{Bool, true, false, _&&_}
-use mathlib.Core.List.{List, List·Memᴰ}
+use mathlib.Core.List.{List}
 use mathlib.Core.Logic.{_⊎_, inl, inr}
 use mathlib.Core.Option.{some}
 use mathlib.Core.Path.{_≡_, ap}
@@ -21,7 +21,7 @@ use Rattle.lists.proofs.Members.{in-filter, nodup-filter}
 use Rattle.lists.proofs.Sums.{weight-le, weight-in, weight-one-more, weight-within}
 use Rattle.lists.proofs.Choice.{Order}
 use Rattle.ticks.specs.Core.{Load, served, turn}
-use Rattle.ticks.proofs.Service.{Counters, turn-cases, served-first, served-is-active, idle-none, tick-cases, served-grows, served-later, served-most}
+use Rattle.ticks.proofs.Service.{On, Counters, turn-cases, served-first, served-is-active, idle-none, tick-cases, served-grows, served-later, served-most}
 
 abbrev pub left : Load → ℕ → ℕ → ℕ
 left L t i = L .owed i - served L t i
@@ -31,14 +31,14 @@ module _ (L : Load) (h : ℕ → Bool) where
   since a = filter (λ i. h i && leb a (L .release i)) (L .on)
 
   abbrev Rests : ℕ → Type 0
-  Rests t = (i : ℕ) → List·Memᴰ i (L .on) → h i ≡ true → L .release i ≤ t → L .owed i ≤ served L t i
+  Rests t = (i : ℕ) → On L i → h i ≡ true → L .release i ≤ t → L .owed i ≤ served L t i
 
   abbrev pub Tended : ℕ → Type 0
   Tended t = ((b : ℕ) × (turn L t ≡ some b) × (h b ≡ true)) ⊎ Rests t
 
   abbrev pub Leads : ℕ → Type 0
   Leads t =
-      (i b : ℕ) → List·Memᴰ i (L .on) → List·Memᴰ b (L .on) → h i ≡ true → h b ≡ false → L .release b ≤ t → L .before i b ≡ true
+      (i b : ℕ) → On L i → On L b → h i ≡ true → h b ≡ false → L .release b ≤ t → L .before i b ≡ true
 
   -- A group that leads is tended.
   pub leads-tended : Order (L .before) → (t : ℕ) → Leads t → Tended t
@@ -100,7 +100,7 @@ module _ (L : Load) (h : ℕ → Bool) where
         whole i u = rw (both {a = h i} {b = leb a (L .release i)} u .0, le-leb 0 (L .release i) (omega arith))
 
         later :
-            Rests t → (i : ℕ) → List·Memᴰ i (L .on) → (h i && leb 0 (L .release i)) ≡ true
+            Rests t → (i : ℕ) → On L i → (h i && leb 0 (L .release i)) ≡ true
             → ((h i && leb (suc t) (L .release i)) ≡ true) ⊎ (left L t i ≡ 0)
         later v i m u =
             let k = both {a = h i} {b = leb 0 (L .release i)} u .0 in
@@ -112,7 +112,7 @@ module _ (L : Load) (h : ℕ → Bool) where
       room (suc t) b a = keeps-room t (omega arith) (tended t (omega arith)) (room t (omega arith)) a
 
       -- At D all that the group is owed has been served.
-      pub group-done : (i : ℕ) → List·Memᴰ i (L .on) → h i ≡ true → served L D i ≡ L .owed i
+      pub group-done : (i : ℕ) → On L i → h i ≡ true → served L D i ≡ L .owed i
       group-done i m u =
           omega (
             arith,

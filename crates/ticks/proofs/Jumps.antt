@@ -21,10 +21,10 @@ use Rattle.lists.specs.Places.{filter}
 use Rattle.lists.specs.Order.{choose}
 use Rattle.lists.proofs.Cases.{split, test, tests, eqb-no, same-leb}
 use Rattle.ticks.specs.Core.{Load, Core, serve, active, pick, ticks}
-use Rattle.ticks.proofs.Service.{pick-none}
+use Rattle.ticks.proofs.Service.{On, pick-none}
 
 abbrev pub Quiet : Load → ℕ → ℕ → Type 0
-Quiet L t k = (i : ℕ) → List·Memᴰ i (L .on) → (L .release i ≤ t) ⊎ (t + k ≤ L .release i)
+Quiet L t k = (i : ℕ) → On L i → (L .release i ≤ t) ⊎ (t + k ≤ L .release i)
 
 abbrev pub jumped : ℕ → ℕ → ℕ → Core → Core
 jumped t p m c =
@@ -60,7 +60,7 @@ outside a t u h w = split w (λ l. same-leb a u a t (omega arith) (omega arith))
 module _ (L : Load) where
   -- Nobody is picked if all are released later or have all that they are owed.
   pub nobody-picked :
-      (t : ℕ) (v : List ℕ) → ((i : ℕ) → List·Memᴰ i (L .on) → (t < L .release i) ⊎ (L .owed i ≤ getD v i 0)) → pick L t v ≡ none
+      (t : ℕ) (v : List ℕ) → ((i : ℕ) → On L i → (t < L .release i) ⊎ (L .owed i ≤ getD v i 0)) → pick L t v ≡ none
   unfolding choose
   nobody-picked t v h =
       rw
@@ -74,7 +74,7 @@ module _ (L : Load) where
       (t u p a : ℕ) (v : List ℕ)
       → p < length v
       → t ≤ u
-      → ((i : ℕ) → List·Memᴰ i (L .on) → (L .release i ≤ t) ⊎ (u < L .release i))
+      → ((i : ℕ) → On L i → (L .release i ≤ t) ⊎ (u < L .release i))
       → getD v p 0 < L .owed p
       → a < L .owed p
       → pick L u (set v p a) ≡ pick L t v

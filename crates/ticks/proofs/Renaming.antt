@@ -10,13 +10,13 @@ use Rattle.lists.proofs.Choice.{Order, Total}
 use Rattle.lists.proofs.Members.{in-cons, in-nil}
 use Rattle.ticks.specs.Core.{Load, served}
 use Rattle.ticks.specs.Runs.{finish}
-use Rattle.ticks.proofs.Service.{Counters, served-is-active}
+use Rattle.ticks.proofs.Service.{On, Counters, served-is-active}
 use Rattle.ticks.proofs.Finishes.{finish-alike}
 use Rattle.ticks.proofs.Alone.{Stands, served-stands}
 
 pub record Renamed (M L : Load) (π : ℕ → ℕ) : Type 0 where
   pub stands : Stands M L π
-  pub back : (b : ℕ) → List·Memᴰ b (L .on) → (i : ℕ) × List·Memᴰ i (M .on) × (π i ≡ b)
+  pub back : (b : ℕ) → On L b → (i : ℕ) × On M i × (π i ≡ b)
 
 module _
     (M L : Load)
@@ -27,11 +27,11 @@ module _
     (ordM : Order (M .before))
     (ordL : Order (L .before))
     (tot : Total (L .before) (L .on)) where
-  pub served-renamed : (t i : ℕ) → List·Memᴰ i (M .on) → served M t i ≡ served L t (π i)
+  pub served-renamed : (t i : ℕ) → On M i → served M t i ≡ served L t (π i)
   served-renamed =
       served-stands M L π (R .stands) N K ordM ordL tot (λ t b e. inl (R .back b (served-is-active L t e .0)))
 
-  pub finish-renamed : (i : ℕ) → List·Memᴰ i (M .on) → finish M i ≡ finish L (π i)
+  pub finish-renamed : (i : ℕ) → On M i → finish M i ≡ finish L (π i)
   finish-renamed i m =
       let S = R .stands in
       finish-alike M L N K i (π i) m (S .there i m) (S .release i m) (S .owed i m) (λ t. served-renamed t i m)
@@ -48,11 +48,11 @@ map-in π (x ∷ xs) m =
 
 pub renamed :
     (M L : Load) (π ρ : ℕ → ℕ)
-    → ((i : ℕ) → List·Memᴰ i (M .on) → ρ (π i) ≡ i)
+    → ((i : ℕ) → On M i → ρ (π i) ≡ i)
     → L .on ≡ map π (M .on)
-    → ((i : ℕ) → List·Memᴰ i (M .on) → M .release i ≡ L .release (π i))
-    → ((i : ℕ) → List·Memᴰ i (M .on) → M .owed i ≡ L .owed (π i))
-    → ((i j : ℕ) → List·Memᴰ i (M .on) → List·Memᴰ j (M .on) → M .before i j ≡ L .before (π i) (π j))
+    → ((i : ℕ) → On M i → M .release i ≡ L .release (π i))
+    → ((i : ℕ) → On M i → M .owed i ≡ L .owed (π i))
+    → ((i j : ℕ) → On M i → On M j → M .before i j ≡ L .before (π i) (π j))
     → Renamed M L π
 renamed M L π ρ inverse list release owed before =
     record {

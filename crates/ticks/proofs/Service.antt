@@ -1,6 +1,7 @@
 -- The service of the core, tick by tick: who is served, what that changes, and what never happens. After these facts
 -- `ticks`, `after` and `pick` stay shut.
 --
+--   On L i     == place i is on the core
 --   Counters L == every place on it has a counter of its own: it is below 128, and stands there once
 use Prim.Native.Nat.{ℕ, zero, suc, _+_, _≤_, _<_}
 use mathlib.Core.Bool.{false}
@@ -23,8 +24,11 @@ use Rattle.subjobs.specs.Sets.{Subjobs, size}
 use Rattle.ticks.specs.Core.{Load, Core, start, serve, rest, step, active, pick, tick, ticks, after, served, ended, turn}
 use Rattle.ticks.specs.Runs.{load}
 
+abbrev pub On : Load → ℕ → Type 0
+On L i = List·Memᴰ i (L .on)
+
 pub record Counters (L : Load) : Type 0 where
-  pub small : (i : ℕ) → List·Memᴰ i (L .on) → i < 128
+  pub small : (i : ℕ) → On L i → i < 128
   pub once : Nodup (L .on)
 
 -- The places of a set of at most 128 have counters.
@@ -96,7 +100,7 @@ module _ (L : Load) where
 
   -- Who is picked is active, and comes first among the active; if nobody is picked, nobody is active.
   module _ (t : ℕ) (v : List ℕ) where
-    pub pick-active : {b : ℕ} → pick L t v ≡ some b → List·Memᴰ b (L .on) × (L .release b ≤ t) × (getD v b 0 < L .owed b)
+    pub pick-active : {b : ℕ} → pick L t v ≡ some b → On L b × (L .release b ≤ t) × (getD v b 0 < L .owed b)
     pick-active {b} e =
         let f = filter-in (active L t v) (L .on) (chosen-in (L .before) _ e) in
         let g = both {a = leb (L .release b) t} {b = ltb (getD v b 0) (L .owed b)} (f .1) in
@@ -104,30 +108,30 @@ module _ (L : Load) where
         let k = g .1 in
         (f .0, omega tests, omega tests)
 
-    is-active : {i : ℕ} → List·Memᴰ i (L .on) → L .release i ≤ t → getD v i 0 < L .owed i → List·Memᴰ i (filter (active L t v) (L .on))
+    is-active : {i : ℕ} → On L i → L .release i ≤ t → getD v i 0 < L .owed i → List·Memᴰ i (filter (active L t v) (L .on))
     is-active m h k = in-filter (active L t v) (L .on) m (rw (le-leb _ _ h, lt-ltb _ _ k))
 
     pub pick-first :
-        Order (L .before) → {b i : ℕ} → pick L t v ≡ some b → List·Memᴰ i (L .on) → L .release i ≤ t → getD v i 0 < L .owed i
+        Order (L .before) → {b i : ℕ} → pick L t v ≡ some b → On L i → L .release i ≤ t → getD v i 0 < L .owed i
         → L .before i b ≡ false
     pick-first ord e m h k = chosen-first (L .before) ord _ e (is-active m h k)
 
-    pub pick-none : {i : ℕ} → pick L t v ≡ none → List·Memᴰ i (L .on) → L .release i ≤ t → L .owed i ≤ getD v i 0
+    pub pick-none : {i : ℕ} → pick L t v ≡ none → On L i → L .release i ≤ t → L .owed i ≤ getD v i 0
     pick-none {i} e m h =
         test (ltb (getD v i 0) (L .owed i))
         (λ k. in-nil (rw (chosen-none (L .before) _ e) at (is-active m h (omega tests))))
         (λ k. omega tests)
 
   -- The same of the one who is served in tick t.
-  pub served-is-active : (t : ℕ) {b : ℕ} → turn L t ≡ some b → List·Memᴰ b (L .on) × (L .release b ≤ t) × (served L t b < L .owed b)
+  pub served-is-active : (t : ℕ) {b : ℕ} → turn L t ≡ some b → On L b × (L .release b ≤ t) × (served L t b < L .owed b)
   served-is-active t e = pick-active t (after L t .served) e
 
   pub served-first :
-      Order (L .before) → (t : ℕ) {b i : ℕ} → turn L t ≡ some b → List·Memᴰ i (L .on) → L .release i ≤ t → served L t i < L .owed i
+      Order (L .before) → (t : ℕ) {b i : ℕ} → turn L t ≡ some b → On L i → L .release i ≤ t → served L t i < L .owed i
       → L .before i b ≡ false
   served-first ord t e m h k = pick-first t (after L t .served) ord e m h k
 
-  pub idle-none : (t : ℕ) {i : ℕ} → turn L t ≡ none → List·Memᴰ i (L .on) → L .release i ≤ t → L .owed i ≤ served L t i
+  pub idle-none : (t : ℕ) {i : ℕ} → turn L t ≡ none → On L i → L .release i ≤ t → L .owed i ≤ served L t i
   idle-none t e m h = pick-none t (after L t .served) e m h
 
   module _ (K : Counters L) where

@@ -26,7 +26,7 @@ use Rattle.subjobs.specs.Sets.{Subjobs, size, release, execution}
 use Rattle.ticks.specs.Core.{Load, start, pick, after, turn}
 use Rattle.ticks.specs.Runs.{horizon, due, load}
 use Rattle.ticks.specs.Events.{toServe, nextRelease, stretch}
-use Rattle.ticks.proofs.Service.{Counters, after-add, lengths, pick-cases, pick-active, idle-none}
+use Rattle.ticks.proofs.Service.{On, Counters, after-add, lengths, pick-cases, pick-active, idle-none}
 use Rattle.ticks.proofs.Jumps.{Quiet, rested, jumped, jump, wait}
 use Rattle.ticks.proofs.Counted.{Done, weight-lt, busy-idle, done-rests, jump-horizon}
 
@@ -88,14 +88,14 @@ module _ (L : Load) where
 
   -- Somebody is released between two moments, or gets the last of what it is owed: an event less is left.
   fewer :
-      (t u : ℕ) (v w : List ℕ) → t ≤ u → ((i : ℕ) → getD v i 0 ≤ getD w i 0) → {p : ℕ} → List·Memᴰ p (L .on)
+      (t u : ℕ) (v w : List ℕ) → t ≤ u → ((i : ℕ) → getD v i 0 ≤ getD w i 0) → {p : ℕ} → On L p
       → ((t < L .release p) × (L .release p ≤ u)) ⊎ ((getD v p 0 < L .owed p) × (L .owed p ≤ getD w p 0))
       → eventsLeft u w < eventsLeft t v
   fewer t u v w b g {p} m e =
-      let later : (i : ℕ) → List·Memᴰ i (L .on) → unreleased u i ≤ unreleased t i =
+      let later : (i : ℕ) → On L i → unreleased u i ≤ unreleased t i =
       λ i n. mark-le t (L .release i) u (L .release i) (λ a. omega arith)
       in
-      let more : (i : ℕ) → List·Memᴰ i (L .on) → unserved w i ≤ unserved v i =
+      let more : (i : ℕ) → On L i → unserved w i ≤ unserved v i =
       λ i n. mark-le (getD v i 0) (L .owed i) (getD w i 0) (L .owed i) (λ a. omega (arith, g i))
       in
       split e
@@ -240,7 +240,7 @@ module _ (L : Load) where
 
   -- The place to serve, read as a number: below n it is the pick, and n says that there is none.
   pub to-serve :
-      (n t : ℕ) (v : List ℕ) → ((i : ℕ) → List·Memᴰ i (L .on) → i < n) → (p : ℕ) → p ≡ toServe L n t v
+      (n t : ℕ) (v : List ℕ) → ((i : ℕ) → On L i → i < n) → (p : ℕ) → p ≡ toServe L n t v
       → (p < n → pick L t v ≡ some p) × (n ≤ p → pick L t v ≡ none)
   to-serve n t v small p is =
       split (pick-cases L t v)

@@ -52,7 +52,7 @@ pub record Run : Type 0 where
   pub busy : ℕ
   pub idle : ℕ
 
--- A finish moment per sub-job, in the order of the places.
+-- A finish moment per sub-job, in the order of the places. Who opens a run computes all of it.
 unfoldable pub runOf : Load → Run
 unfolding start after horizon finish end busyTicks idleTicks
 runOf L = record { finishes = map (finish L) (L .on); end = end L; busy = busyTicks L; idle = idleTicks L }
@@ -61,15 +61,18 @@ runOf L = record { finishes = map (finish L) (L .on); end = end L; busy = busyTi
 abbrev pub due : Subjobs → List ℕ → ℕ → ℕ
 due s asks i = min (getD asks i 0) (execution s i)
 
+-- In each tick the core serves the one with the smallest of the deadlines handed in.
 abbrev pub servedBefore : Subjobs → List ℕ → ℕ → ℕ → Bool
 servedBefore s ds = sooner (λ i. getD ds i 0) (job s) (subtask s)
 
+-- What the core reads: of any sub-jobs, and of a set.
 abbrev pub loadOf : Terms → (ℕ → ℕ) → (ℕ → ℕ → Bool) → List ℕ → Load
 loadOf T o lt xs = record { release = T .release; owed = o; before = lt; on = xs }
 
 abbrev pub load : Subjobs → (ds asks : List ℕ) → Load
 load s ds asks = loadOf (terms s) (due s asks) (servedBefore s ds) (places (size s))
 
+-- the set's core at moment t, and its run
 abbrev pub coreAt : Subjobs → (ds asks : List ℕ) → ℕ → Core
 coreAt s ds asks t = after (load s ds asks) t
 
