@@ -1,4 +1,4 @@
--- The table P1 to P12 of document 01, one statement over the rules themselves.
+-- The cases P1 to P12 of RULES, one table under one statement over the rules themselves.
 --
 --   old s               == a result list for the set s that holds 99s
 --   lent                == a record of totals that holds ticks of an earlier run
@@ -13,7 +13,7 @@ use mathlib.Core.List.{List, [], _∷_, map}
 use mathlib.Core.Path.{_≡_}
 use lib.IntN.{ℤ, pos, negℤ}
 use lib.ListN.{length, replicate}
-use Rattle.lists.specs.Places.{from}
+use Rattle.lists.specs.Places.{from, places}
 use Rattle.subjobs.specs.Sets.{Subjobs, subjobs, size, release, execution}
 use Rattle.rules.specs.Method.{inOrder, best, base}
 use Rattle.olda.specs.Answers as olda
@@ -58,8 +58,8 @@ abbrev pub HoldsAt : Row → Type 0
 HoldsAt (assigned s v ds) =
     (olda.values (olda.answer s (length (old s))) ≡ v) × (olda.results s (old s) ≡ ds)
 HoldsAt (based s xs m) =
-    (base (release s) (execution s) (inOrder (release s) (size s)) ≡ xs)
-    × (best (release s) (execution s) (inOrder (release s) (size s)) ≡ m)
+    (base (release s) (execution s) (inOrder (release s) (places (size s))) ≡ xs)
+    × (best (release s) (execution s) (inOrder (release s) (places (size s))) ≡ m)
 HoldsAt (ran s ds asks v fs b i) =
     (edf.values (edf.answer s ds asks (length (old s)) lent) ≡ v)
     × (edf.finishes s ds asks (old s) lent ≡ fs)
@@ -81,6 +81,10 @@ ended end = pos 0 ∷ pos end ∷ []
 -- number, place, field (none), completion, bound
 abbrev pub refused : ℕ → ℕ → ℕ → ℤ → List ℤ
 refused number place completion bound = pos number ∷ pos place ∷ pos 0 ∷ pos completion ∷ bound ∷ []
+
+-- number, place, field of a refusal that has no completion and no bound
+abbrev pub field : ℕ → ℕ → ℕ → List ℤ
+field number place f = pos number ∷ pos place ∷ pos f ∷ pos 0 ∷ pos 0 ∷ []
 
 abbrev pub p4 : Subjobs
 p4 = setOf (sub 0 2 35 ∷ sub 4 2 42 ∷ sub 5 2 39 ∷ sub 6 1 35 ∷ [])
@@ -119,4 +123,6 @@ table =
     ∷ checked p5 (3 ∷ 7 ∷ []) (refused 6 0 0 (pos 0))
     -- P12
     ∷ checked p8 (3 ∷ 2 ∷ []) (refused 7 0 0 (pos 0))
+    -- execution 0 at place 0 and equal pairs at 1 and 2
+    ∷ assigned (subjobs (1 ∷ 2 ∷ 2 ∷ []) (1 ∷ 1 ∷ 1 ∷ []) (0 ∷ 0 ∷ 0 ∷ []) (0 ∷ 1 ∷ 1 ∷ []) (9 ∷ 9 ∷ 9 ∷ []) (0 ∷ 0 ∷ 0 ∷ [])) (field 3 0 2) (99 ∷ 99 ∷ 99 ∷ [])
     ∷ []

@@ -1,0 +1,46 @@
+-- `field_at` meets its contract: in quotes, or bare.
+use borrow.Author.Needs.{needs}
+use native.Mathlib.Omega.{arith}
+use mathlib.Core.Path.{sym, _∙_}
+use borrow.Author.Tests.{eq-eqb, ne-eqb}
+use Rattle.text.specs.Reading.{fieldAt}
+use Rattle.text.proofs.reading.field_at.Statement.{statement}
+use Rattle.text.proofs.reading.field_at.Tie as tie
+
+byte-at-requires : tie.Need-byte-at-requires
+byte-at-requires c κs = search needs
+
+add-number-at : tie.Need-add-number-at
+add-number-at c = omega (arith, c .before .byte-at .ensures .1 (omega arith))
+
+number-at-requires : tie.Need-number-at-requires
+number-at-requires c κs = search needs
+
+followed-requires : tie.Need-followed-requires
+followed-requires c κs = search needs
+
+number-at-requires-2 : tie.Need-number-at-requires-2
+number-at-requires-2 c κs = search needs
+
+returns : tie.Need-returns
+unfolding fieldAt
+returns c =
+    let b = c .before .before .before in
+    rw
+    (eq-eqb _ _ (sym (b .byte-at .ensures .0) ∙ c .before .before .if1 .taken), c .followed .ensures, c .before .number-at .ensures)
+
+returns-2 : tie.Need-returns-2
+unfolding fieldAt
+returns-2 c = rw (ne-eqb _ _ (λ e. c .before .if1 .left (c .before .before .byte-at .ensures .0 ∙ e)), c .number-at2 .ensures)
+
+pub field-at-spec : {M : Type 1} → statement M
+field-at-spec =
+    tie.close
+    (tie.spec
+    byte-at-requires
+    add-number-at
+    number-at-requires
+    followed-requires
+    number-at-requires-2
+    returns
+    returns-2)
