@@ -1,11 +1,11 @@
--- What the checker answers. Numbers 6 and 7 are those of document 01's table; that together they are the
+-- What the checker answers. Numbers 6 and 7 are those of RULES' table; that together they are the
 -- published conditions (6) and (7) over all subsets is a theorem of `promises`.
 --
 --   judged s ds   == refusals 1 to 4 of the set s, the proposed deadlines ds being one list more
 --   sixOf T d i   == refusal 6 at place i of the sub-jobs T with deadlines d
 --   six, seven    == refusals 6 and 7 at the smallest such place
 --   answer s ds   == the answer for the set s and the proposed deadlines ds
---   values a      == document 01's number and values of an answer: 0, or the reason's
+--   values a      == RULES' number and values of an answer: 0, or the reason's
 use Prim.Native.Nat.{ℕ, _+_}
 use mathlib.Core.Bool.{cond, _&&_}
 use mathlib.Core.List.{List, [], _∷_}

@@ -3,7 +3,7 @@
 --   added r t                == the totals t with the ticks of the run r
 --   above t                  == a total stands above what a record may hold
 --   answer s ds asks n t     == the answer, for a list of n finishes and a record of totals t
---   values a                 == document 01's number and values of an answer: 0 and the end, or the reason's
+--   values a                 == RULES' number and values of an answer: 0 and the end, or the reason's
 --   totals s ds asks n t     == what the record of totals holds afterwards
 --   finishes s ds asks fs t  == what the list of finishes holds afterwards, if it held fs before
 use Prim.Native.Nat.{ℕ, _+_}

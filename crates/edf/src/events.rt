@@ -46,7 +46,7 @@ fn sooner(deadlines: &[u32], jobs: &[u32], subtasks: &[u32], i: usize, j: usize)
 }
 
 // The place to serve in tick t, of those active the one that comes first; as many as there are places if nobody is active.
-// An order of document 02 puts a heap here: callers know it by `toServe` alone.
+// A heap may stand here one day: callers know it by `toServe` alone.
 pub(crate) fn to_serve(
     jobs: &[u32],
     subtasks: &[u32],

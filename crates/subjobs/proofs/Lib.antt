@@ -4,3 +4,4 @@ pub mod Fit
 pub mod Reported
 pub mod Differences
 pub mod Bounds
+pub mod LaidOut

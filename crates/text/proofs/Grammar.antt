@@ -169,6 +169,7 @@ module _ (text : List ℕ) (i : ℕ) where
       as-bare : Found Number text i (numberAt text i) → Found Field text i (numberAt text i)
       as-bare (inl (w, v, n, e, q)) = inl (w, v, bare n, e, q)
       as-bare (inr e) = inr e
+
       in-quotes :
           {c : Cell} → byteAt text i ≡ 34 → Found (Behind 34 Number) text (i + 1) c → Found Field text i c
       in-quotes t (inr e) = inr e

@@ -133,6 +133,7 @@ record-full (suc n) text i j e = by (cellAt n text i) (record-full n text) e
   where
     next : ℕ → ℕ → Fields
     next v k = record { values = v ∷ recordAt n text k .values; end = recordAt n text k .end }
+
     by : (c : Cell) → ((k j : ℕ) → recordAt n text k .end ≡ end.Next j → length (recordAt n text k .values) ≡ n)
         → onCell c next .end ≡ end.Next j → length (onCell c next .values) ≡ suc n
     by (cell.Number v k) ih e = ap suc (ih k j e)

@@ -34,15 +34,15 @@ pub(crate) fn start(text: &[u8], n: usize) {
 
 // A refusal: its number and place, for number 3 the field, for number 5 completion and bound.
 pub(crate) fn refusal(reason: Reason) {
-    let no = subjobs::number_of(reason);
+    let told = subjobs::tell(reason);
     say(b"refused");
-    number(wide(no));
-    number(subjobs::place_of(reason) as u64);
-    if no == 3 {
-        number(wide(subjobs::field_of(reason)));
+    number(wide(told.number));
+    number(told.place as u64);
+    if told.number == 3 {
+        number(wide(told.field));
     }
-    if no == 5 {
-        number(wide(subjobs::completion_of(reason)));
-        signed(subjobs::bound_of(reason));
+    if told.number == 5 {
+        number(wide(told.completion));
+        signed(told.bound);
     }
 }

@@ -36,18 +36,9 @@ known c = fit _ _ (passed c) .lengths
 met : (c : tie.After-six) → six (Set (c .before .before .before)) (Proposed (c .before .before .before)) ≡ c .six .result
 met c = sym (c .six .ensures ∙ rw (known (c .before) .releases))
 
-judge-requires : tie.Need-judge-requires
-judge-requires c κs = search needs
-
-enum-known-judged : tie.Need-enum-known-judged
-enum-known-judged c = search needs
-
 returns : tie.Need-returns
 unfolding answer
 returns c = rw (← c .before .before .before .judge .ensures, c .before .judged .given .1)
-
-enum-told : tie.Need-enum-told
-enum-told c = search needs
 
 six-requires : tie.Need-six-requires
 six-requires c κs =
@@ -59,29 +50,14 @@ six-requires c κs =
       proposed = eqb-true _ _ (l .further) ∙ sym (l .releases);
     }
 
-enum-known-met : tie.Need-enum-known-met
-enum-known-met c = search needs
-
 returns-2 : tie.Need-returns-2
 unfolding answer
 returns-2 c =
     let x = c .before .before .before in
     rw (passed (x .before), met x, c .before .met .given .1)
 
-enum-told-2 : tie.Need-enum-told-2
-enum-told-2 c = search needs
-
-slice-aggregate-seven : tie.Need-slice-aggregate-seven
-slice-aggregate-seven c = search needs
-
 seven-requires : tie.Need-seven-requires
 seven-requires c κs = record { passed = passed (c .before .before .before .before); room = search needs }
-
-enum-known-kept : tie.Need-enum-known-kept
-enum-known-kept c = search needs
-
-enum-told-3 : tie.Need-enum-told-3
-enum-told-3 c = search needs
 
 returns-3 : tie.Need-returns-3
 unfolding answer
@@ -102,18 +78,6 @@ returns-4 c =
 pub check-spec : {M : Type 1} → statement M
 check-spec =
     tie.close
-    (tie.spec
-    judge-requires
-    enum-known-judged
-    returns
-    enum-told
-    six-requires
-    enum-known-met
-    returns-2
-    enum-told-2
-    slice-aggregate-seven
-    seven-requires
-    enum-known-kept
-    enum-told-3
-    returns-3
+    (tie.spec (λ c κs. search needs) (λ c. search needs) returns (λ c. search needs) six-requires (λ c. search needs)
+    returns-2 (λ c. search needs) (λ c. search needs) seven-requires (λ c. search needs) (λ c. search needs) returns-3
     returns-4)

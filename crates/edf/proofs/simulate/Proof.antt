@@ -42,15 +42,6 @@ passed c = sym (c .before .before .judge .ensures) ∙ c .enum-told .given .1
 known : (c : tie.After-enum-told) → Fit (Set (c .before .before .before)) (Further (c .before .before .before))
 known c = fit _ _ (passed c)
 
-judge-requires : tie.Need-judge-requires
-judge-requires c κs = search needs
-
-enum-known-judged : tie.Need-enum-known-judged
-enum-known-judged c = search needs
-
-enum-told : tie.Need-enum-told
-enum-told c = search needs
-
 run-out-requires : tie.Need-run-out-requires
 run-out-requires c κs = let K = c .before .before .before in fits (Set K) (Local K) (Asks K) (Old K) (known c)
 
@@ -64,9 +55,6 @@ returns c =
     let K = c .before .before .before .before in
     simulated-refused (Set K) (Local K) (Asks K) _ (Old K) _ (sym (c .before .before .before .judge .ensures) ∙ c .before .judged .given .1)
 
-same-length : tie.Need-same-length
-same-length c = search needs
-
 returns-2 : tie.Need-returns-2
 returns-2 c =
     let p = c .before .before .before .before .before in
@@ -78,12 +66,5 @@ returns-2 c =
 pub simulate-spec : {M : Type 1} → statement M
 simulate-spec =
     tie.close
-    (tie.spec
-    judge-requires
-    enum-known-judged
-    enum-told
-    run-out-requires
-    settle-requires
-    returns
-    same-length
-    returns-2)
+    (tie.spec (λ c κs. search needs) (λ c. search needs) (λ c. search needs) run-out-requires settle-requires returns
+    (λ c. search needs) returns-2)

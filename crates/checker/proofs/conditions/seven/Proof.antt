@@ -67,9 +67,6 @@ slice-aggregate-simulate c =
     let k = c .before in
     sym (length-take-le (size (Set k)) (Given k .args .finishes .now) (room k))
 
-simulate-requires : tie.Need-simulate-requires
-simulate-requires c κs = search needs
-
 slice-reshare-prefix-late : tie.Need-slice-reshare-prefix-late
 slice-reshare-prefix-late c =
     let w = c .before .before in
@@ -83,9 +80,6 @@ late-requires c κs =
     let w = c .before .before .before in
     eqb-true _ _ (known (w .before .before) .lengths .further) ∙ sym (back-many w _)
 
-same-length : tie.Need-same-length
-same-length c = search needs
-
 returns : tie.Need-returns
 returns c =
     let w = c .before .before .before .before in
@@ -94,12 +88,5 @@ returns c =
 pub seven-spec : {M : Type 1} → statement M
 seven-spec =
     tie.close
-    (tie.spec
-    slice-relend-prefix-simulate
-    slice-aggregate-simulate
-    simulate-requires
-    slice-reshare-prefix-late
-    slice-aggregate-late
-    late-requires
-    same-length
-    returns)
+    (tie.spec slice-relend-prefix-simulate slice-aggregate-simulate (λ c κs. search needs) slice-reshare-prefix-late
+    slice-aggregate-late late-requires (λ c. search needs) returns)

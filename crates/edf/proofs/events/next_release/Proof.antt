@@ -15,21 +15,6 @@ abbrev μ-loop : tie.MeasureT-loop
 loop-holds : tie.Need-loop-holds Inv-loop μ-loop
 loop-holds c = nearest-start _ _ _
 
-sub-i : tie.Need-sub-i Inv-loop μ-loop
-sub-i c = search needs
-
-mul-nearer : tie.Need-mul-nearer Inv-loop μ-loop
-mul-nearer c = search needs
-
-shared-slice-read-nearer : tie.Need-shared-slice-read-nearer Inv-loop μ-loop
-shared-slice-read-nearer c = search needs
-
-nearer-requires : tie.Need-nearer-requires Inv-loop μ-loop
-nearer-requires c κs = search needs
-
-loop-less : tie.Need-loop-less Inv-loop μ-loop
-loop-less c = search needs
-
 loop-again : tie.Need-loop-again Inv-loop μ-loop
 loop-again c = nearest-more (c .before .before .before .loop .inv) (search needs) _ (c .nearer .ensures)
 
@@ -39,14 +24,5 @@ returns c = nearest-done (c .before .loop .inv) (search needs)
 pub next-release-spec : {M : Type 1} → statement M
 next-release-spec =
     tie.close
-    (tie.spec
-    Inv-loop
-    μ-loop
-    loop-holds
-    sub-i
-    mul-nearer
-    shared-slice-read-nearer
-    nearer-requires
-    loop-less
-    loop-again
-    returns)
+    (tie.spec Inv-loop μ-loop loop-holds (λ c. search needs) (λ c. search needs) (λ c. search needs)
+    (λ c κs. search needs) (λ c. search needs) loop-again returns)

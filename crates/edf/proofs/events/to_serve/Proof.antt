@@ -20,26 +20,11 @@ abbrev μ-loop : tie.MeasureT-loop
 loop-holds : tie.Need-loop-holds Inv-loop μ-loop
 loop-holds c = look-start _ _ _
 
-add-i : tie.Need-add-i Inv-loop μ-loop
-add-i c = search needs
-
-active-requires : tie.Need-active-requires Inv-loop μ-loop
-active-requires c κs = search needs
-
-loop-less : tie.Need-loop-less Inv-loop μ-loop
-loop-less c = search needs
-
 loop-again : tie.Need-loop-again Inv-loop μ-loop
 loop-again c =
     look-first (c .before .before .before .before .loop .inv) (search needs)
     (sym (c .before .before .active .ensures) ∙ c .before .if1 .taken)
     (c .if2 .taken)
-
-sooner-requires : tie.Need-sooner-requires Inv-loop μ-loop
-sooner-requires c κs = search needs
-
-loop-less-2 : tie.Need-loop-less-2 Inv-loop μ-loop
-loop-less-2 c = search needs
 
 loop-again-2 : tie.Need-loop-again-2 Inv-loop μ-loop
 loop-again-2 c =
@@ -49,9 +34,6 @@ loop-again-2 c =
     (search needs)
     (sym (c .before .sooner .ensures) ∙ c .if3 .taken)
 
-loop-less-3 : tie.Need-loop-less-3 Inv-loop μ-loop
-loop-less-3 c = search needs
-
 loop-again-3 : tie.Need-loop-again-3 Inv-loop μ-loop
 loop-again-3 c =
     let A = c .before .before .before .before in
@@ -59,9 +41,6 @@ loop-again-3 c =
     (sym (A .active .ensures) ∙ c .before .before .before .if1 .taken)
     (search needs)
     (sym (c .before .sooner .ensures) ∙ c .if3 .left)
-
-loop-less-4 : tie.Need-loop-less-4 Inv-loop μ-loop
-loop-less-4 c = search needs
 
 loop-again-4 : tie.Need-loop-again-4 Inv-loop μ-loop
 loop-again-4 c =
@@ -73,19 +52,6 @@ returns c = look-done (c .before .loop .inv) (c .loop-test .left)
 pub to-serve-spec : {M : Type 1} → statement M
 to-serve-spec =
     tie.close
-    (tie.spec
-    Inv-loop
-    μ-loop
-    loop-holds
-    add-i
-    active-requires
-    loop-less
-    loop-again
-    sooner-requires
-    loop-less-2
-    loop-again-2
-    loop-less-3
-    loop-again-3
-    loop-less-4
-    loop-again-4
-    returns)
+    (tie.spec Inv-loop μ-loop loop-holds (λ c. search needs) (λ c κs. search needs) (λ c. search needs) loop-again
+    (λ c κs. search needs) (λ c. search needs) loop-again-2 (λ c. search needs) loop-again-3 (λ c. search needs)
+    loop-again-4 returns)

@@ -18,36 +18,6 @@ abbrev μ-loop : tie.MeasureT-loop
 loop-holds : tie.Need-loop-holds Inv-loop μ-loop
 loop-holds c = greatest-start _ _ _
 
-sub-i : tie.Need-sub-i Inv-loop μ-loop
-sub-i c = search needs
-
-mul-owed : tie.Need-mul-owed Inv-loop μ-loop
-mul-owed c = search needs
-
-shared-slice-read-owed : tie.Need-shared-slice-read-owed Inv-loop μ-loop
-shared-slice-read-owed c = search needs
-
-mul-owed-2 : tie.Need-mul-owed-2 Inv-loop μ-loop
-mul-owed-2 c = search needs
-
-shared-slice-read-owed-2 : tie.Need-shared-slice-read-owed-2 Inv-loop μ-loop
-shared-slice-read-owed-2 c = search needs
-
-owed-requires : tie.Need-owed-requires Inv-loop μ-loop
-owed-requires c κs = search needs
-
-mul-later : tie.Need-mul-later Inv-loop μ-loop
-mul-later c = search needs
-
-element-copy-out-later : tie.Need-element-copy-out-later Inv-loop μ-loop
-element-copy-out-later c = search needs
-
-later-requires : tie.Need-later-requires Inv-loop μ-loop
-later-requires c κs = search needs
-
-loop-less : tie.Need-loop-less Inv-loop μ-loop
-loop-less c = search needs
-
 loop-again : tie.Need-loop-again Inv-loop μ-loop
 loop-again c =
     greatest-more (c .before .before .before .before .before .before .loop .inv) (search needs) _
@@ -59,19 +29,6 @@ returns c = greatest-done (c .before .loop .inv) (search needs)
 pub end-of-spec : {M : Type 1} → statement M
 end-of-spec =
     tie.close
-    (tie.spec
-    Inv-loop
-    μ-loop
-    loop-holds
-    sub-i
-    mul-owed
-    shared-slice-read-owed
-    mul-owed-2
-    shared-slice-read-owed-2
-    owed-requires
-    mul-later
-    element-copy-out-later
-    later-requires
-    loop-less
-    loop-again
-    returns)
+    (tie.spec Inv-loop μ-loop loop-holds (λ c. search needs) (λ c. search needs) (λ c. search needs)
+    (λ c. search needs) (λ c. search needs) (λ c κs. search needs) (λ c. search needs) (λ c. search needs)
+    (λ c κs. search needs) (λ c. search needs) loop-again returns)

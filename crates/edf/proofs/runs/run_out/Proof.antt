@@ -55,57 +55,18 @@ loop-holds c = (search needs, search needs, reached-start _)
 to-serve-requires : tie.Need-to-serve-requires Inv-loop μ-loop
 to-serve-requires c κs = c .before .before .before .before .before .before .before .before .pre
 
-next-release-requires : tie.Need-next-release-requires Inv-loop μ-loop
-next-release-requires c κs = search needs
-
-mul-owed : tie.Need-mul-owed Inv-loop μ-loop
-mul-owed c = search needs
-
-shared-slice-read-owed : tie.Need-shared-slice-read-owed Inv-loop μ-loop
-shared-slice-read-owed c = search needs
-
-mul-owed-2 : tie.Need-mul-owed-2 Inv-loop μ-loop
-mul-owed-2 c = search needs
-
-shared-slice-read-owed-2 : tie.Need-shared-slice-read-owed-2 Inv-loop μ-loop
-shared-slice-read-owed-2 c = search needs
-
-owed-requires : tie.Need-owed-requires Inv-loop μ-loop
-owed-requires c κs = search needs
-
-mul-before : tie.Need-mul-before Inv-loop μ-loop
-mul-before c = search needs
-
-array-read-before : tie.Need-array-read-before Inv-loop μ-loop
-array-read-before c = search needs
-
 sub-stretch : tie.Need-sub-stretch Inv-loop μ-loop
 sub-stretch c =
     omega (arith, c .owed .ensures, owing (event (c .before .before .before .before)) (c .before .before .before .if1 .taken))
 
-stretch-requires : tie.Need-stretch-requires Inv-loop μ-loop
-stretch-requires c κs = search needs
-
 add-served : tie.Need-add-served Inv-loop μ-loop
 add-served c = omega (arith, served c .room)
-
-mul-served : tie.Need-mul-served Inv-loop μ-loop
-mul-served c = search needs
-
-array-write-served : tie.Need-array-write-served Inv-loop μ-loop
-array-write-served c = search needs
 
 add-busy : tie.Need-add-busy Inv-loop μ-loop
 add-busy c = omega (arith, served c .busy)
 
 add-t : tie.Need-add-t Inv-loop μ-loop
 add-t c = omega (arith, served c .moment)
-
-mul-finish : tie.Need-mul-finish Inv-loop μ-loop
-mul-finish c = search needs
-
-array-write-finish : tie.Need-array-write-finish Inv-loop μ-loop
-array-write-finish c = search needs
 
 loop-less : tie.Need-loop-less Inv-loop μ-loop
 loop-less c = served c .fewer
@@ -125,30 +86,7 @@ loop-again-2 c = (search needs, search needs, waits-on (event (c .before .before
 pub run-out-spec : {M : Type 1} → statement M
 run-out-spec =
     tie.close
-    (tie.spec
-    Inv-loop
-    μ-loop
-    loop-holds
-    to-serve-requires
-    next-release-requires
-    mul-owed
-    shared-slice-read-owed
-    mul-owed-2
-    shared-slice-read-owed-2
-    owed-requires
-    mul-before
-    array-read-before
-    sub-stretch
-    stretch-requires
-    add-served
-    mul-served
-    array-write-served
-    add-busy
-    add-t
-    mul-finish
-    array-write-finish
-    loop-less
-    loop-again
-    returns
-    loop-less-2
-    loop-again-2)
+    (tie.spec Inv-loop μ-loop loop-holds to-serve-requires (λ c κs. search needs) (λ c. search needs)
+    (λ c. search needs) (λ c. search needs) (λ c. search needs) (λ c κs. search needs) (λ c. search needs)
+    (λ c. search needs) sub-stretch (λ c κs. search needs) add-served (λ c. search needs) (λ c. search needs) add-busy
+    add-t (λ c. search needs) (λ c. search needs) loop-less loop-again returns loop-less-2 loop-again-2)

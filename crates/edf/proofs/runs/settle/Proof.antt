@@ -31,43 +31,19 @@ above-is c =
 fits : (c : tie.Else1) → above (Sum (c .before .before .before)) ≡ false
 fits c = sym (above-is (c .before)) ∙ c .if1 .left
 
-end-of-requires : tie.Need-end-of-requires
-end-of-requires c κs = search needs
-
-sub-idle : tie.Need-sub-idle
-sub-idle c = search needs
-
-above-requires : tie.Need-above-requires
-above-requires c κs = search needs
-
-above-requires-2 : tie.Need-above-requires-2
-above-requires-2 c κs = search needs
-
 returns : tie.Need-returns
 returns c = settled-refused _ _ _ _ _ _ (sym (above-is (c .before)) ∙ c .if1 .taken)
-
-write-finishes-requires : tie.Need-write-finishes-requires
-write-finishes-requires c κs = search needs
-
-cast-t22 : tie.Need-cast-t22
-cast-t22 c = search needs
 
 add-t23 : tie.Need-add-t23
 add-t23 c =
     let n = c .before .before .before .before .before .before in
     omega (arith, not-above (Sum (n .before .before .before)) (fits n))
 
-cast-t24 : tie.Need-cast-t24
-cast-t24 c = search needs
-
 add-t25 : tie.Need-add-t25
 add-t25 c =
     let n = c .before .before .before .before .before .before .before in
     let E = n .before .before .before in
     omega (arith, E .end-of .ensures, not-above (Sum E) (fits n))
-
-same-length : tie.Need-same-length
-same-length c = search needs
 
 returns-2 : tie.Need-returns-2
 returns-2 c =
@@ -79,16 +55,5 @@ returns-2 c =
 pub settle-spec : {M : Type 1} → statement M
 settle-spec =
     tie.close
-    (tie.spec
-    end-of-requires
-    sub-idle
-    above-requires
-    above-requires-2
-    returns
-    write-finishes-requires
-    cast-t22
-    add-t23
-    cast-t24
-    add-t25
-    same-length
-    returns-2)
+    (tie.spec (λ c κs. search needs) (λ c. search needs) (λ c κs. search needs) (λ c κs. search needs) returns
+    (λ c κs. search needs) (λ c. search needs) add-t23 (λ c. search needs) add-t25 (λ c. search needs) returns-2)

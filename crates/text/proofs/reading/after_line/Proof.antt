@@ -5,12 +5,6 @@ use Rattle.text.specs.Reading.{afterLine}
 use Rattle.text.proofs.reading.after_line.Statement.{statement}
 use Rattle.text.proofs.reading.after_line.Tie as tie
 
-starts-requires : tie.Need-starts-requires
-starts-requires c κs = search needs
-
-line-end-requires : tie.Need-line-end-requires
-line-end-requires c κs = search needs
-
 returns : tie.Need-returns
 unfolding afterLine
 returns c = rw (sym (c .before .before .starts .ensures) ∙ c .before .if1 .taken, c .line-end .ensures)
@@ -20,4 +14,5 @@ unfolding afterLine
 returns-2 c = rw (sym (c .before .starts .ensures) ∙ c .if1 .left)
 
 pub after-line-spec : {M : Type 1} → statement M
-after-line-spec = tie.close (tie.spec starts-requires line-end-requires returns returns-2)
+after-line-spec = tie.close
+    (tie.spec (λ c κs. search needs) (λ c κs. search needs) returns returns-2)

@@ -7,20 +7,8 @@ use Rattle.text.specs.Reading.{fieldAt}
 use Rattle.text.proofs.reading.field_at.Statement.{statement}
 use Rattle.text.proofs.reading.field_at.Tie as tie
 
-byte-at-requires : tie.Need-byte-at-requires
-byte-at-requires c κs = search needs
-
 add-number-at : tie.Need-add-number-at
 add-number-at c = omega (arith, c .before .byte-at .ensures .1 (omega arith))
-
-number-at-requires : tie.Need-number-at-requires
-number-at-requires c κs = search needs
-
-followed-requires : tie.Need-followed-requires
-followed-requires c κs = search needs
-
-number-at-requires-2 : tie.Need-number-at-requires-2
-number-at-requires-2 c κs = search needs
 
 returns : tie.Need-returns
 unfolding fieldAt
@@ -36,11 +24,5 @@ returns-2 c = rw (ne-eqb _ _ (λ e. c .before .if1 .left (c .before .before .byt
 pub field-at-spec : {M : Type 1} → statement M
 field-at-spec =
     tie.close
-    (tie.spec
-    byte-at-requires
-    add-number-at
-    number-at-requires
-    followed-requires
-    number-at-requires-2
-    returns
-    returns-2)
+    (tie.spec (λ c κs. search needs) add-number-at (λ c κs. search needs) (λ c κs. search needs)
+    (λ c κs. search needs) returns returns-2)

@@ -8,18 +8,6 @@ use Rattle.text.proofs.reading.followed.Tie as tie
 
 -- `followed` meets its contract: the byte behind the number is the one asked for, or not.
 
-enum-known-cell : tie.Need-enum-known-cell
-enum-known-cell c = search needs
-
-enum-told : tie.Need-enum-told
-enum-told c = search needs
-
-returns : tie.Need-returns
-returns c = search needs
-
-byte-at-requires : tie.Need-byte-at-requires
-byte-at-requires c κs = search needs
-
 add-t8 : tie.Need-add-t8
 add-t8 c = omega (arith, c .before .byte-at .ensures .1 (omega arith))
 
@@ -32,4 +20,5 @@ returns-3 c = rw (c .before .before .before .cell .given .1, ne-eqb _ _ (λ e. c
 pub followed-spec : {M : Type 1} → statement M
 followed-spec =
     tie.close
-    (tie.spec enum-known-cell enum-told returns byte-at-requires add-t8 returns-2 returns-3)
+    (tie.spec (λ c. search needs) (λ c. search needs) (λ c. search needs) (λ c κs. search needs) add-t8 returns-2
+    returns-3)

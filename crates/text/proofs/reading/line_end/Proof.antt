@@ -10,18 +10,9 @@ returns : tie.Need-returns
 unfolding lineEnd
 returns c = rw (le-leb _ _ (c .if1 .taken))
 
-byte-at-requires : tie.Need-byte-at-requires
-byte-at-requires c κs = search needs
-
 returns-2 : tie.Need-returns-2
 unfolding lineEnd
 returns-2 c = rw (lt-leb _ _ (c .before .before .if1 .left), ne-eqb _ _ (λ e. c .if2 .taken (c .before .byte-at .ensures .0 ∙ e)))
-
-add-byte-at : tie.Need-add-byte-at
-add-byte-at c = search needs
-
-byte-at-requires-2 : tie.Need-byte-at-requires-2
-byte-at-requires-2 c κs = search needs
 
 returns-3 : tie.Need-returns-3
 unfolding lineEnd
@@ -32,9 +23,6 @@ returns-3 c =
       eq-eqb _ _ (sym (o .byte-at .ensures .0) ∙ c .before .before .if2 .left),
       ne-eqb _ _ (λ e. c .if3 .taken (c .before .byte-at2 .ensures .0 ∙ e)),
     )
-
-add-t3 : tie.Need-add-t3
-add-t3 c = search needs
 
 returns-4 : tie.Need-returns-4
 unfolding lineEnd
@@ -49,12 +37,5 @@ returns-4 c =
 pub line-end-spec : {M : Type 1} → statement M
 line-end-spec =
     tie.close
-    (tie.spec
-    returns
-    byte-at-requires
-    returns-2
-    add-byte-at
-    byte-at-requires-2
-    returns-3
-    add-t3
-    returns-4)
+    (tie.spec returns (λ c κs. search needs) returns-2 (λ c. search needs) (λ c κs. search needs) returns-3
+    (λ c. search needs) returns-4)

@@ -53,9 +53,6 @@ left c =
 loop-holds : tie.Need-loop-holds Inv-loop μ-loop
 loop-holds c = (omega arith, omega arith, refl)
 
-shared-slice-read-b : tie.Need-shared-slice-read-b Inv-loop μ-loop
-shared-slice-read-b c = search needs
-
 returns : tie.Need-returns Inv-loop μ-loop
 returns c =
     let o = c .before .before in
@@ -65,29 +62,14 @@ returns c =
     ∙ ap number (digits-more (Text l) _ _ _ (o .before .loop-test .taken) (c .before .if1 .left))
     ∙ too-long _ _ _ _ (omega tests))
 
-mul-value : tie.Need-mul-value Inv-loop μ-loop
-mul-value c = search needs
-
-wide-requires : tie.Need-wide-requires Inv-loop μ-loop
-wide-requires c κs = search needs
-
 sub-value : tie.Need-sub-value Inv-loop μ-loop
 sub-value c = let d = digit-of c in omega arith
 
 add-value : tie.Need-add-value Inv-loop μ-loop
 add-value c = let d = digit-of c in omega arith
 
-add-count : tie.Need-add-count Inv-loop μ-loop
-add-count c = search needs
-
-add-i : tie.Need-add-i Inv-loop μ-loop
-add-i c = search needs
-
 returns-2 : tie.Need-returns-2 Inv-loop μ-loop
 returns-2 c = sym (more (c .before) ∙ too-great _ _ _ _ (c .if3 .taken))
-
-loop-less : tie.Need-loop-less Inv-loop μ-loop
-loop-less c = search needs
 
 loop-again : tie.Need-loop-again Inv-loop μ-loop
 loop-again c = (omega tests, omega tests, sym (more (c .before)))
@@ -95,9 +77,6 @@ loop-again c = (omega tests, omega tests, sym (more (c .before)))
 returns-3 : tie.Need-returns-3 Inv-loop μ-loop
 unfolding number
 returns-3 c = sym (left (c .before) ∙ simp (lt-leb _ _ (c .if4 .taken)))
-
-cast-t17 : tie.Need-cast-t17 Inv-loop μ-loop
-cast-t17 c = search needs
 
 returns-4 : tie.Need-returns-4 Inv-loop μ-loop
 unfolding number
@@ -108,21 +87,6 @@ returns-4 c =
 pub number-at-spec : {M : Type 1} → statement M
 number-at-spec =
     tie.close
-    (tie.spec
-    Inv-loop
-    μ-loop
-    loop-holds
-    shared-slice-read-b
-    returns
-    mul-value
-    wide-requires
-    sub-value
-    add-value
-    add-count
-    add-i
-    returns-2
-    loop-less
-    loop-again
-    returns-3
-    cast-t17
-    returns-4)
+    (tie.spec Inv-loop μ-loop loop-holds (λ c. search needs) returns (λ c. search needs) (λ c κs. search needs)
+    sub-value add-value (λ c. search needs) (λ c. search needs) returns-2 (λ c. search needs) loop-again returns-3
+    (λ c. search needs) returns-4)

@@ -16,27 +16,6 @@ abbrev μ-loop : tie.MeasureT-loop
 loop-holds : tie.Need-loop-holds Inv-loop μ-loop
 loop-holds c = (refl, begun-none _ _ _)
 
-mul-put-cell : tie.Need-mul-put-cell Inv-loop μ-loop
-mul-put-cell c = search needs
-
-shared-slice-read-put-cell : tie.Need-shared-slice-read-put-cell Inv-loop μ-loop
-shared-slice-read-put-cell c = search needs
-
-sub-put-cell : tie.Need-sub-put-cell Inv-loop μ-loop
-sub-put-cell c = search needs
-
-sub-put-cell-2 : tie.Need-sub-put-cell-2 Inv-loop μ-loop
-sub-put-cell-2 c = search needs
-
-put-cell-requires : tie.Need-put-cell-requires Inv-loop μ-loop
-put-cell-requires c κs = search needs
-
-add-i : tie.Need-add-i Inv-loop μ-loop
-add-i c = search needs
-
-loop-less : tie.Need-loop-less Inv-loop μ-loop
-loop-less c = search needs
-
 loop-again : tie.Need-loop-again Inv-loop μ-loop
 loop-again c =
     let p = c .before .before in
@@ -53,17 +32,5 @@ returns c = begun-all _ (c .before .loop .inv .1) (c .loop-test .left)
 pub put-record-spec : {M : Type 1} → statement M
 put-record-spec =
     tie.close
-    (tie.spec
-    Inv-loop
-    μ-loop
-    loop-holds
-    mul-put-cell
-    shared-slice-read-put-cell
-    sub-put-cell
-    sub-put-cell-2
-    put-cell-requires
-    add-i
-    loop-less
-    loop-again
-    same-length
-    returns)
+    (tie.spec Inv-loop μ-loop loop-holds (λ c. search needs) (λ c. search needs) (λ c. search needs)
+    (λ c. search needs) (λ c κs. search needs) (λ c. search needs) (λ c. search needs) loop-again same-length returns)

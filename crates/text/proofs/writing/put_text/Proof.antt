@@ -18,18 +18,6 @@ abbrev μ-loop : tie.MeasureT-loop
 loop-holds : tie.Need-loop-holds Inv-loop μ-loop
 loop-holds c = (refl, none _ _)
 
-shared-slice-read-put-byte : tie.Need-shared-slice-read-put-byte Inv-loop μ-loop
-shared-slice-read-put-byte c = search needs
-
-put-byte-requires : tie.Need-put-byte-requires Inv-loop μ-loop
-put-byte-requires c κs = search needs
-
-add-i : tie.Need-add-i Inv-loop μ-loop
-add-i c = search needs
-
-loop-less : tie.Need-loop-less Inv-loop μ-loop
-loop-less c = search needs
-
 loop-again : tie.Need-loop-again Inv-loop μ-loop
 loop-again c =
     let p = c .before .before in
@@ -46,14 +34,5 @@ returns c = rw (take-all _ _ (c .loop-test .left)) at (c .before .loop .inv .1)
 pub put-text-spec : {M : Type 1} → statement M
 put-text-spec =
     tie.close
-    (tie.spec
-    Inv-loop
-    μ-loop
-    loop-holds
-    shared-slice-read-put-byte
-    put-byte-requires
-    add-i
-    loop-less
-    loop-again
-    same-length
-    returns)
+    (tie.spec Inv-loop μ-loop loop-holds (λ c. search needs) (λ c κs. search needs) (λ c. search needs)
+    (λ c. search needs) loop-again same-length returns)
