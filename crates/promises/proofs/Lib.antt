@@ -9,3 +9,4 @@ pub mod Text
 pub mod Cases
 pub mod Door
 pub mod Outcomes
+pub mod Example

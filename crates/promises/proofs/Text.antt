@@ -19,7 +19,7 @@ use Rattle.subjobs.specs.Sets.{Subjobs, size}
 use Rattle.subjobs.specs.Judging.{judgement}
 use Rattle.subjobs.specs.Faults as faults
 use Rattle.subjobs.specs.Faults.{OneLength, Fit, Faulty}
-use Rattle.subjobs.proofs.Fit.{judged, judged-exactly}
+use Rattle.subjobs.proofs.Fit.{fit-passes, judged, judged-exactly}
 use Rattle.rules.specs.Method.{Outcome, placed, stuck, method}
 use Rattle.rules.specs.Rules.{Accepted}
 use Rattle.rules.proofs.Obeys.{method-placed, method-stuck}
@@ -31,10 +31,14 @@ use Rattle.table.specs.Format.{Rows, Parsed, records, refused, Begins, Reads}
 use Rattle.table.specs.Reading.{read, setOf}
 use Rattle.table.specs.Writing.{printedLine, refusal}
 use Rattle.table.specs.Answers as table
+use Rattle.table.proofs.Exactly.{read-exactly}
+use Rattle.table.proofs.Outcomes.{Sound}
+use Rattle.table.proofs.Longest.{answer-length}
+use Rattle.table.proofs.OneLine.{accepted-lines}
 use Rattle.table.specs.Answers.{verdictOf, tabled, answer}
 use Rattle.promises.specs.Words.{accepted, Assigned, at}
 use Rattle.promises.specs.Text as says
-use Rattle.promises.specs.Text.{refusedLine, printed, Tabled, TableSays, TableAnswers}
+use Rattle.promises.specs.Text.{refusedLine, printed, Tabled, TableSays, TableAnswers, OneLineEach, AnswerFits}
 use Rattle.promises.proofs.Faulted.{refused-number}
 use Rattle.promises.proofs.Assign.{fit-ones, refused-answer, placed-answer, stuck-answer, report-accepted, assigned-rules}
 
@@ -106,71 +110,81 @@ module _ (s : Subjobs) where
     gives : {ds : List ℕ} → method s ≡ placed ds → Assigned s ds
     gives {ds} q = let a = placed-answer s room fits ds q in (room, rw (a .0) (report-accepted s ds), a .1)
 
-module _ (reads-exactly : (text : List ℕ) (p : Parsed) → (read text ≡ p) ↔ Reads text p) where
-  -- What the output is, by what the text is read as.
-  module _ (text : List ℕ) where
-    read-refused : {r : Reason} → read text ≡ refused r → answer text ≡ refusedLine (numberOf r) (printedLine r)
-    unfolding answer
-    read-refused {r} e = rw e (line-of r)
+-- What the output is, by what the text is read as.
+module _ (text : List ℕ) where
+  read-refused : {r : Reason} → read text ≡ refused r → answer text ≡ refusedLine (numberOf r) (printedLine r)
+  unfolding answer
+  read-refused {r} e = rw e (line-of r)
 
-    read-records : {rows : Rows} → read text ≡ records rows → answer text ≡ tabled (setOf rows)
-    unfolding answer
-    read-records e = rw e
+  read-records : {rows : Rows} → read text ≡ records rows → answer text ≡ tabled (setOf rows)
+  unfolding answer
+  read-records e = rw e
 
-    module _ {rows : Rows} (t : Tabled text rows) where
-      is-read : answer text ≡ tabled (setOf rows)
-      is-read = read-records (reads-exactly text (records rows) .1 (format.table (t .0) (t .1)))
+  module _ {rows : Rows} (t : Tabled text rows) where
+    is-read : answer text ≡ tabled (setOf rows)
+    is-read = read-records (read-exactly text (records rows) .1 (format.table (t .0) (t .1)))
 
-      few : size (setOf rows) ≤ 128
-      few = omega (arith, rows-size rows, t .1)
+    few : size (setOf rows) ≤ 128
+    few = omega (arith, rows-size rows, t .1)
 
-      by-fault : {r : Reason} → Faulty (setOf rows) true r → TableSays text (refusedLine (numberOf r) (printedLine r))
-      by-fault (faults.lengths n) = absurd (n (rows-length rows))
-      by-fault (faults.many l m) = absurd (omega (arith, few))
-      by-fault (faults.range p f l m h a b n) = says.range t (faults.range p f l m h a b n)
-      by-fault (faults.pair p j l m a h b k e) = says.pair t (faults.pair p j l m a h b k e)
+    by-fault : {r : Reason} → Faulty (setOf rows) true r → TableSays text (refusedLine (numberOf r) (printedLine r))
+    by-fault (faults.lengths n) = absurd (n (rows-length rows))
+    by-fault (faults.many l m) = absurd (omega (arith, few))
+    by-fault (faults.range p f l m h a b n) = says.range t (faults.range p f l m h a b n)
+    by-fault (faults.pair p j l m a h b k e) = says.pair t (faults.pair p j l m a h b k e)
 
-      by-method : Fit (setOf rows) true → (w : Outcome) → method (setOf rows) ≡ w → TableSays text (tabled (setOf rows))
-      by-method f (stuck p m) q =
-          let s = setOf rows in
-          rw (is-stuck s f q, line-of (Late p m (bound (terms s) p))) (says.late t f (method-stuck s (fit-ones s true f) p m .0 q))
-      by-method f (placed ds) q = rw (is-placed (setOf rows) f q) (says.accepted t (gives (setOf rows) f q))
-
-      by-set : TableSays text (tabled (setOf rows))
-      by-set =
-          let s = setOf rows in
-          split (judged s true .holds)
-          (λ f. by-method f (method s) refl)
-          (λ q. rw (judged-refused s (judged s true .refuses (q .0) (q .1)), line-of (q .0)) (by-fault (q .1)))
-
-    by-reading : {p : Parsed} → read text ≡ p → Reads text p → TableSays text (answer text)
-    by-reading e (format.long h) = rw (read-refused e) (says.long h)
-    by-reading e (format.headless h n) = rw (read-refused e) (says.headless h n)
-    by-reading e (format.malformed b h n m) = rw (read-refused e) (says.malformed b h n m)
-    by-reading e (format.many b h n) = rw (read-refused e) (says.many b h n)
-    by-reading e (format.table b h) = rw (read-records e) (by-set (b, h))
-
-    refusing : {r : Reason} → Reads text (refused r) → refusedLine (numberOf r) (printedLine r) ≡ answer text
-    refusing {r} h = sym (read-refused (reads-exactly text (refused r) .1 h))
-
-    faulting : {rows : Rows} {r : Reason} → Tabled text rows → Faulty (setOf rows) true r → refusedLine (numberOf r) (printedLine r) ≡ answer text
-    faulting {rows} {r} t f = sym (is-read t ∙ judged-refused (setOf rows) (judged-exactly (setOf rows) true r .1 f) ∙ line-of r)
-
-    only : {o : List ℕ} → TableSays text o → o ≡ answer text
-    only (says.long h) = refusing (format.long h)
-    only (says.headless h n) = refusing (format.headless h n)
-    only (says.malformed b h n m) = refusing (format.malformed b h n m)
-    only (says.many b h n) = refusing (format.many b h n)
-    only (says.range t f) = faulting t f
-    only (says.pair t f) = faulting t f
-    only (says.late {rows} {p} {m} t f h) =
+    by-method : Fit (setOf rows) true → (w : Outcome) → method (setOf rows) ≡ w → TableSays text (tabled (setOf rows))
+    by-method f (stuck p m) q =
         let s = setOf rows in
-        sym (is-read t ∙ is-stuck s f (method-stuck s (fit-ones s true f) p m .1 h) ∙ line-of (Late p m (bound (terms s) p)))
-    only (says.accepted {rows} {ds} t h) =
-        let s = setOf rows in
-        let w = assigned-rules s ds h in
-        let f : Fit s true = rw (w .0 .lengths .further) at (w .0) in
-        sym (is-read t ∙ is-placed s f (method-placed s (fit-ones s true f) ds .1 (w .1, w .2)))
+        rw (is-stuck s f q, line-of (Late p m (bound (terms s) p))) (says.late t f (method-stuck s (fit-ones s true f) p m .0 q))
+    by-method f (placed ds) q = rw (is-placed (setOf rows) f q) (says.accepted t (gives (setOf rows) f q))
 
-  pub table-answers : TableAnswers
-  table-answers text = (by-reading text refl (reads-exactly text (read text) .0 refl), λ o h. only text h)
+    by-set : TableSays text (tabled (setOf rows))
+    by-set =
+        let s = setOf rows in
+        split (judged s true .holds)
+        (λ f. by-method f (method s) refl)
+        (λ q. rw (judged-refused s (judged s true .refuses (q .0) (q .1)), line-of (q .0)) (by-fault (q .1)))
+
+  by-reading : {p : Parsed} → read text ≡ p → Reads text p → TableSays text (answer text)
+  by-reading e (format.long h) = rw (read-refused e) (says.long h)
+  by-reading e (format.headless h n) = rw (read-refused e) (says.headless h n)
+  by-reading e (format.malformed b h n m) = rw (read-refused e) (says.malformed b h n m)
+  by-reading e (format.many b h n) = rw (read-refused e) (says.many b h n)
+  by-reading e (format.table b h) = rw (read-records e) (by-set (b, h))
+
+  refusing : {r : Reason} → Reads text (refused r) → refusedLine (numberOf r) (printedLine r) ≡ answer text
+  refusing {r} h = sym (read-refused (read-exactly text (refused r) .1 h))
+
+  faulting : {rows : Rows} {r : Reason} → Tabled text rows → Faulty (setOf rows) true r → refusedLine (numberOf r) (printedLine r) ≡ answer text
+  faulting {rows} {r} t f = sym (is-read t ∙ judged-refused (setOf rows) (judged-exactly (setOf rows) true r .1 f) ∙ line-of r)
+
+  only : {o : List ℕ} → TableSays text o → o ≡ answer text
+  only (says.long h) = refusing (format.long h)
+  only (says.headless h n) = refusing (format.headless h n)
+  only (says.malformed b h n m) = refusing (format.malformed b h n m)
+  only (says.many b h n) = refusing (format.many b h n)
+  only (says.range t f) = faulting t f
+  only (says.pair t f) = faulting t f
+  only (says.late {rows} {p} {m} t f h) =
+      let s = setOf rows in
+      sym (is-read t ∙ is-stuck s f (method-stuck s (fit-ones s true f) p m .1 h) ∙ line-of (Late p m (bound (terms s) p)))
+  only (says.accepted {rows} {ds} t h) =
+      let s = setOf rows in
+      let w = assigned-rules s ds h in
+      let f : Fit s true = rw (w .0 .lengths .further) at (w .0) in
+      sym (is-read t ∙ is-placed s f (method-placed s (fit-ones s true f) ds .1 (w .1, w .2)))
+
+pub table-answers : TableAnswers
+table-answers text = (by-reading text refl (read-exactly text (read text) .0 refl), λ o h. only text h)
+
+pub one-line-each : OneLineEach
+unfolding table.accepted
+one-line-each s ds h =
+    let w = assigned-rules s ds h in
+    let f : Fit s true = rw (w .0 .lengths .further) at (w .0) in
+    accepted-lines s ds
+    (record { passed = fit-passes s true f; is = method-placed s (fit-ones s true f) ds .1 (w .1, w .2) })
+
+pub answer-fits : AnswerFits
+answer-fits = answer-length

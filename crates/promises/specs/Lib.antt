@@ -4,6 +4,7 @@ pub mod Assign
 pub mod Simulate
 pub mod Check
 pub mod Text
+pub mod Example
 pub mod Door
 pub mod Outcomes
 pub mod Cases

@@ -7,7 +7,6 @@
 --   TableAnswers        == the output is just that: no other number, no other line, no other byte
 --   OneLineEach         == an accepted table's output is the header and one line per sub-job in input order
 --   AnswerFits          == no answer is longer than the 7,203 bytes that `table` is lent
---   WorkedExample       == the example of RULES, and `refused,5,2` for P3
 use Prim.Native.Nat.{ℕ, _+_, _<_, _≤_}
 use mathlib.Core.Bool.{true}
 use mathlib.Core.List.{List, [], _∷_, _++_, map}
