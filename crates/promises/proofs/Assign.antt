@@ -162,7 +162,7 @@ module _ (s : Subjobs) (out : List ℕ) where
       let a = stuck-answer f p m (method-stuck s (fit-ones s (resultsFit s out) f) p m .1 h) in
       (sym (ap values (a .0)), sym (a .1))
   only (says.nothing f z) =
-            let a = placed-answer f [] (method-placed s (fit-ones s (resultsFit s out) f) [] .1 (sym z, empty s (at []) z)) in
+      let a = placed-answer f [] (method-placed s (fit-ones s (resultsFit s out) f) [] .1 (sym z, empty s (at []) z)) in
       (sym (ap values (a .0 ∙ report-none s [] z)), sym (a .1))
   only (says.placed {ds} {p} {x} f l h r) =
       let a = placed-answer f ds (method-placed s (fit-ones s (resultsFit s out) f) ds .1 (l, h)) in

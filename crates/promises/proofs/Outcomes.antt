@@ -92,8 +92,7 @@ door-writes :
 door-writes bs out old z l =
     let a = door-placed bs out z in
     let b = door-placed bs old (rw l z) in
-    let ds = olda.results (records bs) (room bs) in
-    (
+    let ds = olda.results (records bs) (room bs) in (
       a .2 ∙ sym (b .2),
       omega (arith, ap length (a .2), length-encoded ds, assigned-rules (records bs) ds (a .1) .1, size-records bs, a .0 .1),
     )
