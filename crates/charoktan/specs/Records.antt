@@ -4,6 +4,7 @@
 --   column bs w k n  == the numbers at byte k of each of n records of w bytes
 --   records bs       == the set that the bytes hold
 --   Fields bs n i l  == the six fields of the first i records stand in l, in lists laid out n places apart
+--   Reading bs n i l == that, with record i of n to be read next, and room for it
 --   bytes v          == the four bytes of a number, little-endian
 --   encoded vs       == the bytes of a list of numbers
 --   words bs n       == the n numbers that these bytes hold
@@ -39,6 +40,12 @@ records bs =
 -- the same six fields of i records, in lists laid out n places apart: what the code has read
 abbrev pub Fields : List ℕ → (n i : ℕ) → List ℕ → Type 0
 Fields bs n i l = (k : ℕ) → k < 6 → listAt l n k i ≡ column bs 24 (4 * k) i
+
+pub record Reading (bs : List ℕ) (n i : ℕ) (l : List ℕ) : Type 0 where
+  pub next : i < n
+  pub inside : 24 * n ≤ length bs
+  pub room : 6 * n ≤ length l
+  pub fields : Fields bs n i l
 
 -- results are 4 bytes little-endian each
 abbrev pub bytes : ℕ → List ℕ

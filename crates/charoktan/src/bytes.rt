@@ -3,7 +3,7 @@ ghost use Prim.Native.Nat.{_+_, _*_, _≤_, _<_};
 ghost use mathlib.Core.Path.{_≡_};
 ghost use mathlib.Core.List.{_++_};
 ghost use lib.ListN.{length, take, drop};
-ghost use Rattle.charoktan.specs.Records.{word, words, Fields, bytes, encoded};
+ghost use Rattle.charoktan.specs.Records.{word, words, Fields, Reading, bytes, encoded};
 ghost use Rattle.subjobs.specs.Layout.{listAt};
 
 fn wide(x: u8) -> u32
@@ -37,9 +37,7 @@ pub(crate) fn words(bytes: &[u8], out: &mut [u32])
 
 // The six fields of record i, each to the list of its field; the lists stand n places apart.
 fn record(bytes: &[u8], i: usize, n: usize, out: &mut [u32])
-    requires { ⌜
-        (i < n) × (24 * n ≤ length (now bytes)) × (6 * n ≤ length (now out))
-        × Fields (now bytes) n i (now out) ⌝ }
+    requires { ⌜ Reading (now bytes) n i (now out) ⌝ }
     ensures { λ _. ⌜ Fields (now (bytes .entry)) n (i + 1) (now (out .exit)) ⌝ }
 {
     let mut k = 0;

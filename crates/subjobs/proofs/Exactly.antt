@@ -6,7 +6,7 @@ use mathlib.Core.Logic.{_⊎_, _↔_, inl, inr}
 use mathlib.Core.Path.{_≡_, refl, sym, _∙_, subst}
 use native.Mathlib.Omega.{arith}
 use lib.Dec.{eqb}
-use Rattle.lists.proofs.Cases.{split, test, tests}
+use Rattle.lists.proofs.Cases.{split, test, clash, tests}
 use Rattle.lists.proofs.Searched.{onward}
 use Rattle.subjobs.specs.declared.Judgement.{Judgement}
 use Rattle.subjobs.specs.declared.Judgement.the-variants.{Passed, Refused}
@@ -57,6 +57,10 @@ exactly-unless b w so not-so apart =
     test b
     (λ e. record { passes = λ p. rw e; refuses = λ r q. absurd (apart (so e) (q .1)); holds = inl (so e) })
     (λ e. record { passes = λ p. absurd (apart p (not-so e)); refuses = λ r q. rw (e, q .0); holds = inr (w, (refl, not-so e)) })
+
+-- A test that says P.
+pub exactly-test : {P : Type 0} (b : Bool) (w : Reason) → (b ≡ true → P) → (P → b ≡ true) → Exactly (unless b w) P (λ r. (r ≡ w) × (P → ⊥))
+exactly-test b w so back = exactly-unless b w so (λ e p. clash (back p) e) (λ p n. n p)
 
 pub exactly-or :
     {a b : Judgement} {P P′ : Type 0} {Q Q′ : Reason → Type 0} → Exactly a P Q → Exactly b P′ Q′

@@ -1,9 +1,9 @@
 -- The judgement, both ways: a set passes exactly if it is `Fit`, and it is refused for a reason exactly if it is `Faulty` for
 -- that reason. Every entry's proof starts from `fit`.
 use Prim.Native.Nat.{ℕ, _<_, _≤_}
-use mathlib.Core.Bool.{Bool, true, false, not, _&&_}
+use mathlib.Core.Bool.{Bool, true, false, _&&_}
 use mathlib.Core.Logic.{_⊎_, _↔_, inl, inr}
-use mathlib.Core.Path.{_≡_, refl, sym}
+use mathlib.Core.Path.{_≡_, refl}
 use native.Mathlib.Omega.{arith}
 use borrow.Author.Tests.{eqb-true, eq-eqb, le-leb, leb-true}
 use lib.Dec.{leb, eqb}
@@ -16,8 +16,10 @@ use Rattle.subjobs.specs.declared.Reason.{Reason}
 use Rattle.subjobs.specs.declared.Reason.the-variants.{Lengths, TooMany, Range, Pair}
 use Rattle.subjobs.specs.Sets.{Subjobs, size, job, subtask, release, execution, deadline, critical}
 use Rattle.subjobs.specs.Judging.{unless, oneLength, rangeAt, pairAt, judgement}
-use Rattle.subjobs.specs.Faults.{OneLength, InRange, Ranged, RangedBefore, SamePair, Fit, Faulty, lengths, many, range, pair}
-use Rattle.subjobs.proofs.Exactly.{Exactly, passing, refusing, exactly-so, exactly-unless, exactly-or, exactly-first}
+use Rattle.subjobs.specs.Faults.{OneLength, InRange, Ranged, RangedBefore, SamePair, Faulty, lengths, many, range, pair}
+use Rattle.subjobs.proofs.Exactly.{Exactly, passing, refusing, exactly-so, exactly-test, exactly-unless, exactly-or, exactly-first}
+pub use Rattle.subjobs.specs.Faults.{Fit}
+pub use Rattle.subjobs.proofs.Exactly.{refused-passed}
 
 -- 1
 pub one-length : (s : Subjobs) (others : Bool) → oneLength s others ≡ true → OneLength s others
@@ -49,16 +51,15 @@ all-one-length s others l =
 
 -- 3
 at-most : (x m : ℕ) (w : Reason) → Exactly (unless (leb x m) w) (x ≤ m) (λ r. (r ≡ w) × (x ≤ m → ⊥))
-at-most x m w = exactly-unless (leb x m) w (λ e. omega tests) (λ e h. omega tests) (λ h n. n h)
+at-most x m w = exactly-test (leb x m) w (leb-true x m) (le-leb x m)
 
 between :
     (a x m : ℕ) (w : Reason)
     → Exactly (unless (leb a x && leb x m) w) ((a ≤ x) × (x ≤ m)) (λ r. (r ≡ w) × ((a ≤ x) × (x ≤ m) → ⊥))
 between a x m w =
-    exactly-unless (leb a x && leb x m) w
+    exactly-test (leb a x && leb x m) w
     (λ e. let b = both e in (leb-true _ _ (b .0), leb-true _ _ (b .1)))
-    (λ e h. clash (rw (le-leb _ _ (h .0), le-leb _ _ (h .1))) e)
-    (λ h n. n h)
+    (λ h. rw (le-leb _ _ (h .0), le-leb _ _ (h .1)))
 
 module _ (s : Subjobs) (p : ℕ) where
   -- The first field of a place that is out of range.
@@ -124,10 +125,6 @@ module _ (s : Subjobs) (p : ℕ) where
       (λ n w. n (w .0) (w .1) (w .2))))
 
 module _ (s : Subjobs) (others : Bool) where
-  lengths-exactly : Exactly (unless (oneLength s others) Lengths) (OneLength s others) (λ r. (r ≡ Lengths) × (OneLength s others → ⊥))
-  lengths-exactly =
-      exactly-unless (oneLength s others) Lengths (one-length s others) (λ e l. clash (all-one-length s others l) e) (λ l n. n l)
-
   few-exactly : Exactly (unless (leb (size s) 128) TooMany) (size s ≤ 128) (λ r. (r ≡ TooMany) × (128 < size s))
   few-exactly = exactly-unless (leb (size s) 128) TooMany (λ e. omega tests) (λ e. omega tests) (λ a b. omega arith)
 
@@ -135,7 +132,7 @@ module _ (s : Subjobs) (others : Bool) where
   unfolding judgement
   judged =
       exactly-so
-      (exactly-or lengths-exactly
+      (exactly-or (exactly-test (oneLength s others) Lengths (one-length s others) (all-one-length s others))
       (exactly-or few-exactly
       (exactly-or (exactly-first _ _ _ (range-exactly s) (size s)) (exactly-first _ _ _ (pair-exactly s) (size s)))))
       (λ h. record { lengths = h .0; few = h .1 .0; ranges = h .1 .1 .0; pairs = λ i j a b e f. h .1 .1 .1 j b i a (e, f) })
@@ -161,14 +158,14 @@ module _ (s : Subjobs) (others : Bool) where
             inr (l, inr (m, inr (all, (p, b, (λ k h i a q. once i k a h (q .0) (q .1)), (refl, (j, before, same))))))
       ])
 
-  pub fit : judgement s others ≡ Passed → Fit s others
-  fit = passing judged .0
-
-  pub fit-passes : Fit s others → judgement s others ≡ Passed
-  fit-passes = judged .passes
-
   pub passed-exactly : (judgement s others ≡ Passed) ↔ Fit s others
   passed-exactly = passing judged
 
   pub judged-exactly : (r : Reason) → (judgement s others ≡ Refused r) ↔ Faulty s others r
   judged-exactly = refusing judged
+
+  pub fit : judgement s others ≡ Passed → Fit s others
+  fit = passed-exactly .0
+
+  pub fit-passes : Fit s others → judgement s others ≡ Passed
+  fit-passes = passed-exactly .1

@@ -31,7 +31,7 @@ pub record-spec : {M : Type 1} → statement M
 record-spec =
     tie.close
     (tie.spec Inv-loop μ-loop
-    (λ c. (search needs, search needs, λ j h. absurd (omega arith), λ j h l. c .before .before .pre .3 j l))
+    (λ c. (search needs, search needs, λ j h. absurd (omega arith), λ j h l. c .before .before .pre .fields j l))
     (λ c. search needs) (λ c. search needs) (λ c. search needs) (λ c κs. search needs)
     (λ c. let h = room (c .before) in search needs) (λ c. let h = room (c .before) in search needs)
     (λ c. let h = room (c .before) in search needs) (λ c. let h = room (c .before) in search needs)
