@@ -1,7 +1,7 @@
 -- What `simulate` and `run` answer and leave, in the numbers of RULES, and what is promised of a run: its numbers are the
 -- single-tick core's own, so none can be invented.
 --
---   listsFit s ds asks fs       == the call's further lists are as long as the six
+--   most              == the most that a total may hold
 --   SimulateSays s ds asks fs t v l u == RULES has the simulator answer the values v, leave the finishes l in place of fs
 --                                  and the totals u in place of t
 --   SimulateAnswers, RunAnswers == both entries do just that: no other number, no other values, list or totals

@@ -8,15 +8,13 @@ use borrow.Author.Tests.{lt-ltb, le-ltb, lt-leb, leb-true, ltb-true, ltb-false}
 use lib.Dec.{ltb, leb}
 use lib.ListN.{length, drop, length-append, length-drop, drop-of-length-le}
 use Rattle.lists.proofs.Cases.{split, test, tests}
-use Rattle.text.specs.declared.reading.End.{End}
 use Rattle.text.specs.declared.reading.End.the-variants as end
-use Rattle.text.specs.Reading.{Fields, recordAt, afterLine}
-use Rattle.text.specs.Format.{Line, First}
+use Rattle.text.specs.Reading.{Fields}
 use Rattle.text.proofs.Grammar.{record-read, record-cases, first-some, line-read, line-cases}
-use Rattle.subjobs.specs.declared.Reason.the-variants as reason
 use Rattle.subjobs.specs.Reasons.{placeOf}
 use Rattle.table.specs.Format.{header, fields, Rows, Parsed, records, refused, Records, none, more, Begins, Reads, long, headless, malformed, many, table}
 use Rattle.table.specs.Reading.{recordsFrom, read}
+use Rattle.table.specs.Answers.{onParsed, answer}
 use Rattle.table.proofs.Filling.{records-end}
 
 never : {X : Type 0} {j : ℕ} → end.Missing ≡ end.Next j → X
@@ -48,7 +46,7 @@ from-told (suc n) text rows i h b =
     test (leb (length text) i)
     (λ t. rw t (table (rw (drop-of-length-le text (leb-true _ _ t)) at b) (omega arith)))
     (λ t.
-    split (record-cases 5 text i)
+    split (record-cases fields (omega arith) text i)
     (λ q.
     let l = length-append rows (q .0 ∷ []) in
     rw (t, q .2)
@@ -109,7 +107,7 @@ told-read (malformed {text} {t} {rows} b h s n) =
     let q = begun-read b (omega arith) in
     let z : 128 - length rows ≡ suc (128 - length rows - 1) = omega arith in
     let k = left-some text (q .0) t (q .1) (filled t s) in
-    split (record-cases 5 text (q .0)) (λ r. absurd (n (r .0) _ (rw (q .1) at (r .3)))) (λ r. q .2 ∙ rw (z, lt-leb _ _ k, r))
+    split (record-cases fields (omega arith) text (q .0)) (λ r. absurd (n (r .0) _ (rw (q .1) at (r .3)))) (λ r. q .2 ∙ rw (z, lt-leb _ _ k, r))
 told-read (many {text} {t} {rows} b h s) =
     let q = begun-read b (omega arith) in
     let z : 128 - length rows ≡ 0 = omega arith in
@@ -122,6 +120,11 @@ told-read (table {text} {rows} b h) =
 -- A text is read as p exactly if that is what it says.
 pub read-exactly : (text : List ℕ) (p : Parsed) → (read text ≡ p) ↔ Reads text p
 read-exactly text p = (λ e. rw e at (reads text), told-read)
+
+-- The whole output, by what the text is read as.
+pub answer-told : {text : List ℕ} {p : Parsed} → Reads text p → answer text ≡ onParsed p
+unfolding answer
+answer-told r = rw (told-read r)
 
 -- At most 128 records, or a refusal at one of their lines or at the next: the line that is printed is a small number.
 abbrev pub Within : Parsed → Type 0

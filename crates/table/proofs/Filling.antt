@@ -17,7 +17,7 @@ use Rattle.text.specs.Reading.{recordAt}
 use Rattle.table.specs.declared.reading.Body.{Body}
 use Rattle.table.specs.declared.reading.Body.the-variants as body
 use Rattle.table.specs.Format.{fields, Rows, Parsed, records, refused}
-use Rattle.table.specs.Reading.{recordsFrom, column, setOf}
+use Rattle.table.specs.Reading.{recordsFrom, setOf}
 use Rattle.table.specs.Stores.{scattered, Holds, Told, setIn}
 
 -- A record, number by number.
@@ -91,7 +91,7 @@ one-more rows row = length-append rows (row ∷ [])
 
 pub holds-more :
     (l : List ℕ) (rows : Rows) (row : List ℕ)
-    → length l ≡ 768
+    → length l ≡ 128 * fields
     → length row ≡ fields
     → length rows < 128
     → Holds l rows
@@ -111,11 +111,11 @@ pub record Reached (text : List ℕ) (at : ℕ) (l : List ℕ) (count i : ℕ) :
   pub rows : Rows
   pub many : length rows ≡ count
   pub few : count ≤ 128
-  pub room : length l ≡ 768
+  pub room : length l ≡ 128 * fields
   pub holds : Holds l rows
   pub rest : recordsFrom (128 - count) rows text i ≡ recordsFrom 128 [] text at
 
-pub reached-start : (text : List ℕ) (at : ℕ) (l : List ℕ) → length l ≡ 768 → Reached text at l 0 at
+pub reached-start : (text : List ℕ) (at : ℕ) (l : List ℕ) → length l ≡ 128 * fields → Reached text at l 0 at
 reached-start text at l s = record { rows = []; many = refl; few = omega arith; room = s; holds = λ k h. refl; rest = refl }
 
 module _ {text l : List ℕ} {at count i : ℕ} (r : Reached text at l count i) where

@@ -14,7 +14,7 @@ use Rattle.text.proofs.Printed.{IsLine, line-first, line-line}
 use Rattle.table.specs.Writing.{outHeader}
 use Rattle.table.specs.Answers.{lineAt, joined, accepted, verdictOf, tabled}
 use Rattle.table.proofs.Printing.{line-of}
-use Rattle.table.proofs.Outcomes.{Sound, in-time, accepted-sound}
+use Rattle.table.proofs.Outcomes.{Sound, in-time, accepted-sound, tabled-accepted}
 
 joined-lines :
     (f : ℕ → List ℕ) (a n : ℕ) → ((i : ℕ) → i < a + n → IsLine (f i)) → linesOf (joined f (from a n)) ≡ map f (from a n)
@@ -24,6 +24,7 @@ joined-lines f a (suc n) h =
     line-first (f a) (joined f (from (suc a) n)) (h a (omega arith))
     ∙ ap (λ (ls : List (List ℕ)). f a ∷ ls) (joined-lines f (suc a) n (λ i l. h i (omega arith)))
 
+-- Cut at its line ends, the output for an accepted set is the header and one line per sub-job, in input order.
 pub accepted-lines :
     (s : Subjobs) (ds : List ℕ)
     → Sound s ds

@@ -32,7 +32,7 @@ use Rattle.ticks.proofs.Ticks as run
 use Rattle.edf.proofs.Fresh.{fresh-finishes}
 use Rattle.table.specs.Writing.{outHeader, refusal}
 use Rattle.table.specs.Answers.{lineAt, joined, accepted, verdictOf, tabled}
-use Rattle.table.specs.Stores.{setIn, PrintableAt, Listed, Roomy}
+use Rattle.table.specs.Stores.{setIn, PrintableAt, Roomy}
 use Rattle.table.proofs.Printing.{InTime, in-time-at}
 
 -- A set that refusals 1 to 4 pass, with the deadlines that the method gives it.
@@ -101,6 +101,17 @@ accepted-same s out old l k e =
     placed-same : {a b : List ℕ} → placed a ≡ placed b → a ≡ b
     placed-same q = cc
 
+-- The output for a set, by what the assignment says.
+module _ (s : Subjobs) where
+  pub tabled-refused : (r : Reason) → verdictOf (olda.answer s (size s)) ≡ judgement.Refused r → tabled s ≡ refusal r
+  unfolding tabled
+  tabled-refused r e = rw e
+
+  pub tabled-accepted :
+      verdictOf (olda.answer s (size s)) ≡ judgement.Passed → tabled s ≡ accepted s (olda.results s (replicate (size s) 0))
+  unfolding tabled
+  tabled-accepted e = rw e
+
 verdict-refused : (a : Answer) (r : Reason) → verdictOf a ≡ judgement.Refused r → a ≡ olda-answer.Refused r
 verdict-refused (olda-answer.Placed x) r e = let z : _≡_ {A = ℕ} 0 1 = cc in absurd (omega arith)
 verdict-refused olda-answer.Nothing r e = let z : _≡_ {A = ℕ} 0 1 = cc in absurd (omega arith)
@@ -123,8 +134,7 @@ module _ {l ds fs : List ℕ} {n : ℕ} (r : Roomy l n ds fs) where
     refused-place = omega (arith, refused-within (setIn l n) (length ds) q (verdict-refused (olda.answer (setIn l n) (length ds)) q e))
 
     pub refused-text : tabled (setIn l n) ≡ refusal q
-    unfolding tabled
-    refused-text = rw (told (judgement.Refused q) e)
+    refused-text = tabled-refused (setIn l n) q (told (judgement.Refused q) e)
 
   module _ (e : verdictOf (olda.answer (setIn l n) (length ds)) ≡ judgement.Passed) where
     abbrev Given : List ℕ
@@ -150,9 +160,9 @@ module _ {l ds fs : List ℕ} {n : ℕ} (r : Roomy l n ds fs) where
         }
 
     pub accepted-text : tabled (setIn l n) ≡ outHeader ++ joined (lineAt (setIn l n) Given Finished) (places n)
-    unfolding tabled accepted
+    unfolding accepted
     accepted-text =
         let s = setIn l n in
         let p = told judgement.Passed e in
-        rw (p, accepted-same s (replicate (size s) 0) ds (length-replicate {A = ℕ} (size s) 0) local-size p, finished)
+        rw (tabled-accepted s p, accepted-same s (replicate (size s) 0) ds (length-replicate {A = ℕ} (size s) 0) local-size p, finished)
         (ap (λ (k : ℕ). outHeader ++ joined (lineAt s Given (ticks.run s Given (s .executions) .finishes)) (places k)) size-in)

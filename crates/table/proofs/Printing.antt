@@ -7,7 +7,7 @@ use native.Mathlib.Numerals.{add-one}
 use native.Mathlib.Omega.{arith}
 use borrow.Author.Tests.{le-ltb}
 use lib.IntN.{pos, subℕ, _-ℤ_}
-use lib.ListN.{getD, take, drop}
+use lib.ListN.{getD, drop}
 use lib.Seq.{getD-take, getD-drop}
 use Rattle.lists.specs.Places.{from, places}
 use Rattle.subjobs.specs.declared.Reason.{Reason}

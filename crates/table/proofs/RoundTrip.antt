@@ -10,6 +10,7 @@ use mathlib.Core.Bool.{Bool, true, false, cond}
 use mathlib.Core.List.{List, [], _∷_, _++_, append-nil}
 use mathlib.Core.Logic.{inl, inr}
 use mathlib.Core.Path.{_≡_, refl}
+use native.Mathlib.Omega.{arith}
 use lib.ListN.{length}
 use Rattle.text.specs.Writing.{crlf}
 use Rattle.text.specs.Format.{Line, First}
@@ -47,11 +48,12 @@ records-cons f (more r g) = more (records-cons f r) g
 rows-written : (st : ℕ → ℕ → Style) (k : ℕ) (rows : Rows) (e : Bool) → Fits st k rows → Records (behind st k rows e) rows []
 unfolding behind
 rows-written st k [] e h = none
-rows-written st k (row ∷ rows) e h =
-    let line = recordText (st k) 0 row in
+rows-written st k ((v ∷ vs) ∷ rows) e h =
+    let line = recordText (st k) 0 (v ∷ vs) in
     records-cons
-    (record { line = line; is = record-written (st k) 0 5 row (h .0) (h .1); stands = line-behind line st (suc k) rows e })
+    (record { line = line; is = rw (h .0) at (record-written (st k) 0 v vs (h .1)); stands = line-behind line st (suc k) rows e })
     (rows-written st (suc k) rows e (h .2))
+rows-written st k ([] ∷ rows) e h = absurd (omega (arith, h .0))
 
 -- A table written from any records reads back as those records.
 pub reads-back :

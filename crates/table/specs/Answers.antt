@@ -1,19 +1,19 @@
 -- What a table is answered: text in, text out.
 --
---   slackAt s ds i    == the slack of place i, ds the local deadlines
---   lineAt s ds fs i  == the line of place i, fs the finishes
---   joined f xs       == f of each place of xs, one behind the other
---   accepted s ds     == the whole output for an accepted set
---   verdictOf a       == whether the assignment's answer a is acceptance
---   tabled s          == the whole output for a set
---   answer text       == the whole output for a text
+--   slackAt s ds i         == the slack of place i, ds the local deadlines
+--   lineAt s ds fs i       == the line of place i, fs the finishes
+--   joined f xs            == f of each place of xs, one behind the other
+--   accepted s ds          == the whole output for an accepted set
+--   verdictOf a            == whether the assignment's answer a is acceptance, and why not
+--   tabled s               == the whole output for a set
+--   answer text            == the whole output for a text
 --   Tables text out r out′ == what `table` is held to
---   Counts k l        == k counts bytes at the start of l
+--   Counts k l             == k counts bytes at the start of l
 use Prim.Native.Nat.{ℕ, _≤_}
 use mathlib.Core.List.{List, [], _∷_, _++_}
 use mathlib.Core.Path.{_≡_}
 use lib.IntN.{ℤ}
-use lib.ListN.{length, getD, take, replicate}
+use lib.ListN.{length, getD, take, drop, replicate}
 use Rattle.lists.specs.Places.{places}
 use Rattle.subjobs.specs.declared.Judgement.{Judgement}
 use Rattle.subjobs.specs.declared.Judgement.the-variants as judgement
@@ -24,7 +24,6 @@ use Rattle.olda.specs.declared.Answer.{Answer}
 use Rattle.olda.specs.declared.Answer.the-variants as olda-answer
 use Rattle.olda.specs.Answers as olda
 use Rattle.ticks.specs.Runs as ticks
-use Rattle.text.specs.Reading.{over}
 use Rattle.table.specs.Format.{Parsed, records, refused}
 use Rattle.table.specs.Reading.{read, setOf}
 use Rattle.table.specs.Writing.{lineOf, outHeader, refusal}
@@ -66,7 +65,7 @@ answer text = onParsed (read text)
 -- held before in the rest.
 pub record Tables (text out : List ℕ) (r : ℕ) (out′ : List ℕ) : Type 0 where
   pub count : r ≡ length (answer text)
-  pub bytes : out′ ≡ over (answer text) out
+  pub bytes : out′ ≡ answer text ++ drop (length (answer text)) out
 
 -- k bytes at the start of a list, which may be lent on by themselves. The second part follows from the first.
 abbrev pub Counts : ℕ → List ℕ → Type 0

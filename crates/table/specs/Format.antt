@@ -48,11 +48,13 @@ pub record Begins (text : List ℕ) (rows : Rows) (t : List ℕ) : Type 0 where
   pub first : Line header text rest
   pub read : Records rest rows t
 
--- Text is judged 10, then 11, then line by line: the first malformed record gives 12 (the record at place p is line
--- p + 2), and the start of a 129th record, any byte after the 128th one's CR LF, gives 2, its own text unread.
+-- Text is judged 10, then 11, then line by line.
 pub data Reads : List ℕ → Parsed → Type 0 where
+  -- 10: table text over 16,384 bytes
   long : {text : List ℕ} → 16_384 < length text → Reads text (refused reason.TextTooLong)
+  -- 11: first line is not the header
   headless : {text : List ℕ} → length text ≤ 16_384 → ((t : List ℕ) → Line header text t → ⊥) → Reads text (refused reason.Header)
+  -- 12: the first malformed record; the record at place p is line p + 2
   malformed :
       {text t : List ℕ} {rows : Rows}
       → Begins text rows t
@@ -60,5 +62,7 @@ pub data Reads : List ℕ → Parsed → Type 0 where
       → t ≢ []
       → ((row u : List ℕ) → First fields t row u → ⊥)
       → Reads text (refused (reason.Malformed (length rows + 2)))
+  -- 2: the start of a 129th record, any byte after the 128th one's CR LF, its own text unread
   many : {text t : List ℕ} {rows : Rows} → Begins text rows t → length rows ≡ 128 → t ≢ [] → Reads text (refused reason.TooMany)
+  -- a table of these records
   table : {text : List ℕ} {rows : Rows} → Begins text rows [] → length rows ≤ 128 → Reads text (records rows)

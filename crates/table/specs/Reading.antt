@@ -20,6 +20,7 @@ abbrev pub onEnd : End → Parsed → (ℕ → Parsed) → Parsed
 onEnd (end.Next i) p f = f i
 onEnd end.Missing p f = p
 
+-- Line by line: the first malformed record gives 12, and the start of a 129th record gives 2, its own text unread.
 unfoldable pub recordsFrom : ℕ → Rows → List ℕ → ℕ → Parsed
 recordsFrom zero rows text i = cond (leb (length text) i) (records rows) (refused reason.TooMany)
 recordsFrom (suc left) rows text i =
@@ -27,6 +28,7 @@ recordsFrom (suc left) rows text i =
     cond (leb (length text) i) (records rows)
     (onEnd (r .end) (refused (reason.Malformed (length rows + 2))) (λ j. recordsFrom left (rows ++ (r .values ∷ [])) text j))
 
+-- Text is judged 10, then 11, then line by line.
 unfoldable pub read : List ℕ → Parsed
 read text =
     cond (ltb 16_384 (length text)) (refused reason.TextTooLong)
@@ -35,5 +37,6 @@ read text =
 abbrev pub column : ℕ → Rows → List ℕ
 column k rows = map (λ (row : List ℕ). getD row k 0) rows
 
+-- The header's order.
 abbrev pub setOf : Rows → Subjobs
 setOf rows = subjobs (column 0 rows) (column 1 rows) (column 2 rows) (column 3 rows) (column 4 rows) (column 5 rows)

@@ -8,8 +8,8 @@ mod writing;
 use reading::Body;
 
 // The deadlines of a table. The answer stands in the first bytes of the output, which has room for every answer: a
-// header of 35 bytes and 128 lines of at most 56. The rest stays as it was. The second clause
-// follows from the first, and is what a caller needs to lend the answer on.
+// header of 35 bytes and 128 lines of at most 56. The rest stays as it was. The second clause follows from the first; by
+// it a caller lends the answer on.
 pub fn table(text: &[u8], out: &mut [u8; 7203]) -> usize
     ensures { λ r. ⌜ Tables (now (text .entry)) (now (out .entry)) r (now (out .exit)) ⌝ }
     ensures counts { λ r. ⌜ Counts r (now (out .exit)) ⌝ }

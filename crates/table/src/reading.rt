@@ -1,8 +1,11 @@
 // Reading: from the bytes of a text to the lists of its records, or the reason for which the text is refused.
+// Another field in a record: `fields` and `header` (specs/Format.antt), `row` and the header here, `lists` in lib.rt. The
+// laws are over any number of fields.
 ghost use Prim.Native.Nat.{_*_, _<_, _≤_};
 ghost use mathlib.Core.Path.{_≡_};
 ghost use mathlib.Core.List.{[]};
 ghost use lib.ListN.{length};
+ghost use Rattle.table.specs.Format.{fields};
 ghost use Rattle.table.specs.Reading.{recordsFrom, read};
 ghost use Rattle.table.specs.Stores.{scattered, Told};
 use subjobs::Reason;
@@ -28,7 +31,7 @@ fn put(lists: &mut [u32], place: usize, row: &[u32])
 
 // The records from `at` on, line by line.
 fn records_from(text: &[u8], at: usize, lists: &mut [u32]) -> Body
-    requires { ⌜ length (now lists) ≡ 768 ⌝ }
+    requires { ⌜ length (now lists) ≡ 128 * fields ⌝ }
     ensures { λ r. ⌜ Told (recordsFrom 128 [] (now (text .entry)) at) r (now (lists .exit)) ⌝ }
 {
     let mut count: usize = 0;
@@ -50,7 +53,7 @@ fn records_from(text: &[u8], at: usize, lists: &mut [u32]) -> Body
 
 // A text is judged 10, then 11, then line by line.
 pub(crate) fn read(text: &[u8], lists: &mut [u32]) -> Body
-    requires { ⌜ length (now lists) ≡ 768 ⌝ }
+    requires { ⌜ length (now lists) ≡ 128 * fields ⌝ }
     ensures { λ r. ⌜ Told (read (now (text .entry))) r (now (lists .exit)) ⌝ }
 {
     if 16_384 < text.len() {

@@ -5,6 +5,7 @@ ghost use Rattle.subjobs.specs.Layout.{listAt};
 ghost use Rattle.olda.specs.Answers as olda;
 ghost use Rattle.edf.specs.Answers as edf;
 ghost use Rattle.text.specs.Writing.{Wrote};
+ghost use Rattle.table.specs.Format.{fields};
 ghost use Rattle.table.specs.Answers.{verdictOf, tabled};
 ghost use Rattle.table.specs.Stores.{setIn, Listed, Roomy};
 use crate::writing;
@@ -14,7 +15,7 @@ use subjobs::Judgement;
 
 // The first n places of the k-th of the lists, which stand 128 places apart.
 fn list(lists: &[u32], k: usize, n: usize) -> &[u32]
-    requires { ⌜ Listed (now lists) n × (k < 6) ⌝ }
+    requires { ⌜ Listed (now lists) n × (k < fields) ⌝ }
     ensures { λ r. ⌜ now r ≡ listAt (now (lists .entry)) 128 k n ⌝ }
 {
     &lists[128 * k..128 * k + n]

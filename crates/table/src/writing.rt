@@ -5,9 +5,9 @@ ghost use mathlib.Core.Path.{_≡_};
 ghost use Rattle.lists.specs.Places.{places};
 ghost use Rattle.subjobs.specs.Reasons.{placeOf};
 ghost use Rattle.text.specs.Writing.{Wrote};
-ghost use Rattle.table.specs.Writing.{lineFor, refusal};
+ghost use Rattle.table.specs.Writing.{refusal};
 ghost use Rattle.table.specs.Answers.{lineAt, joined};
-ghost use Rattle.table.specs.Stores.{setIn, numbersAt, PrintableAt};
+ghost use Rattle.table.specs.Stores.{setIn, numbersAt, PrintableAt, PrintedLine};
 use subjobs::Reason;
 
 // The numbers of the line of place i: job, subtask, local deadline, finish, slack.
@@ -46,8 +46,7 @@ pub(crate) fn put_lines(
 // The line that a refusal with this number and place names.
 fn printed_line(number: u32, place: usize) -> usize
     requires { ⌜ place ≤ 129 ⌝ }
-    ensures { λ r. ⌜ r ≡ lineFor number place ⌝ }
-    ensures small { λ r. ⌜ r ≤ 131 ⌝ }
+    ensures { λ r. ⌜ PrintedLine number place r ⌝ }
 {
     if (3 <= number) & (number <= 5) {
         return place + 2;

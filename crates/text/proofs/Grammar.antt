@@ -1,7 +1,7 @@
 -- Reading is the grammar of Format.antt: what stands in a text is read (the laws -read), and what is read stands there,
 -- or nothing is read (the laws -cases).
 use Prim.Native.Nat.{ℕ, zero, suc, _+_, _*_, _-_, _<_, _≤_}
-use mathlib.Core.Bool.{true, false, _&&_, _||_}
+use mathlib.Core.Bool.{true, _&&_, _||_}
 use mathlib.Core.List.{List, [], _∷_, _++_, append-assoc, append-nil}
 use mathlib.Core.Logic.{_⊎_, inl, inr}
 use mathlib.Core.Path.{_≡_, refl, sym, ap, _∙_}
@@ -10,13 +10,12 @@ use native.Mathlib.Numerals.{add-one}
 use native.Mathlib.Omega.{arith}
 use borrow.Author.Tests.{le-ltb, le-leb, lt-leb, leb-true, eq-eqb, ne-eqb, eqb-true}
 use lib.Dec.{ltb, leb, eqb}
-use lib.ListN.{length, getD, drop, length-drop, length-append, drop-of-length-le, List·getD-eq-default}
+use lib.ListN.{length, drop, length-drop, length-append, drop-of-length-le, List·getD-eq-default}
 use lib.Seq.{drop-drop, drop-append-seam, drop-cons, drop-length, getD-drop}
 use Rattle.lists.specs.Places.{Every}
 use Rattle.lists.proofs.Cases.{split, test, clash, both, tests}
 use Rattle.text.specs.declared.reading.Cell.{Cell}
 use Rattle.text.specs.declared.reading.Cell.the-variants as cell
-use Rattle.text.specs.declared.reading.End.{End}
 use Rattle.text.specs.declared.reading.End.the-variants as end
 use Rattle.text.specs.Reading.{byteAt, digits, number, numberAt, followed, fieldAt, cellAt, lineEnd, recordAt, starts, afterLine}
 use Rattle.text.specs.Format.{Digit, valueFrom, Number, Field, bare, quoted, Record, last, more, Line, First}
@@ -262,16 +261,17 @@ longer : (w : List ℕ) {s u l t : List ℕ} → s ≡ w ++ u → Line l u t →
 longer w {s} {u} {l} {t} e (inl f) = inl (e ∙ rw (f, append-assoc w l (13 ∷ 10 ∷ t)))
 longer w e (inr f) = inr (e ∙ ap (λ (x : List ℕ). w ++ x) (f .0), f .1)
 
--- The first line from i on is a record, and is read; or it is none.
-pub record-cases :
-    (n : ℕ) (text : List ℕ) (i : ℕ)
-    → ((vs : List ℕ)
+abbrev Cases : ℕ → List ℕ → ℕ → Type 0
+Cases k text i =
+    ((vs : List ℕ)
     × (j : ℕ)
-    × (recordAt (suc n) text i ≡ record { values = vs; end = end.Next j })
-    × First (suc n) (drop i text) vs (drop j text))
-    ⊎ (recordAt (suc n) text i .end ≡ end.Missing)
+    × (recordAt k text i ≡ record { values = vs; end = end.Next j })
+    × First k (drop i text) vs (drop j text))
+    ⊎ (recordAt k text i .end ≡ end.Missing)
+
+fields-cases : (n : ℕ) (text : List ℕ) (i : ℕ) → Cases (suc n) text i
 unfolding recordAt
-record-cases zero text i =
+fields-cases zero text i =
     split (last-cases text i)
     (λ q.
     split (end-cases text (i + length (q .0)))
@@ -280,10 +280,10 @@ record-cases zero text i =
     inl (q .1 ∷ [], l .0, rw (q .4, l .1), record { line = q .0; is = last (q .2); stands = rw (append-nil (q .0)) at f }))
     (λ m. inr (rw (q .4, m))))
     (λ m. inr (rw m))
-record-cases (suc n) text i =
+fields-cases (suc n) text i =
     split (parted-cases text i n)
     (λ q.
-    split (record-cases n text (i + length (q .0)))
+    split (fields-cases n text (i + length (q .0)))
     (λ r.
     let u = q .2 .0 in
     let f = longer (q .0) (q .3) (r .3 .stands) in
@@ -291,6 +291,10 @@ record-cases (suc n) text i =
     inl (q .1 ∷ r .0, r .1, rw (q .4, r .2), record { line = u ++ (44 ∷ r .3 .line); is = more (q .2 .1) (r .3 .is); stands = g }))
     (λ m. inr (rw (q .4, m))))
     (λ m. inr (rw m))
+
+-- The first line from i on is a record, and is read; or it is none.
+pub record-cases : (k : ℕ) → 0 < k → (text : List ℕ) (i : ℕ) → Cases k text i
+record-cases k h text i = let e : k ≡ suc (k - 1) = omega arith in rw e (fields-cases (k - 1) text i)
 
 field-some : {w : List ℕ} {v : ℕ} → Field w v → 1 ≤ length w
 field-some (bare n) = n .some

@@ -11,7 +11,7 @@ use Rattle.lists.specs.Places.{Every}
 use Rattle.lists.proofs.Cases.{test, tests}
 use Rattle.lists.proofs.Members.{every-more, every-append}
 use Rattle.text.specs.Format.{Digit}
-use Rattle.text.specs.Writing.{figures, decimal, crlf, cellText, lineText}
+use Rattle.text.specs.Writing.{figures, decimal, crlf, lineText}
 use Rattle.text.specs.Lines.{cut, linesOf}
 
 pub figures-length : (p x : ℕ) → length (figures p x) ≤ p

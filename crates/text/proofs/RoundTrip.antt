@@ -14,7 +14,7 @@ use native.Mathlib.Omega.{arith}
 use lib.Dec.{ltb}
 use lib.ListN.{length, replicate, length-append, length-replicate}
 use Rattle.lists.specs.Places.{Every}
-use Rattle.lists.proofs.Cases.{test, tests}
+use Rattle.lists.proofs.Cases.{test}
 use Rattle.lists.proofs.Members.{every-append}
 use Rattle.text.specs.Writing.{figures, decimal}
 use Rattle.text.specs.Format.{Digit, valueFrom, Number, Field, bare, quoted, Record, last, more}
@@ -82,10 +82,7 @@ field-written : (st : Style) (v : ℕ) → v ≤ 4_294_967_295 → st .zeros + l
 field-written st v s h =
     test (st .quoted) (λ e. rw e (quoted (number-written st v s h))) (λ e. rw e (bare (number-written st v s h)))
 
-fields-written : (st : ℕ → Style) (k v : ℕ) (vs : List ℕ) → Fit st k (v ∷ vs) → Record (suc (length vs)) (recordText st k (v ∷ vs)) (v ∷ vs)
-fields-written st k v [] h = last (field-written (st k) v (h .0) (h .1))
-fields-written st k v (u ∷ vs) h = more (field-written (st k) v (h .0) (h .1)) (fields-written st (suc k) u vs (h .2))
-
-pub record-written : (st : ℕ → Style) (k n : ℕ) (vs : List ℕ) → length vs ≡ suc n → Fit st k vs → Record (suc n) (recordText st k vs) vs
-record-written st k n [] l h = absurd (omega arith)
-record-written st k n (v ∷ vs) l h = rw l at (fields-written st k v vs h)
+pub record-written :
+    (st : ℕ → Style) (k v : ℕ) (vs : List ℕ) → Fit st k (v ∷ vs) → Record (suc (length vs)) (recordText st k (v ∷ vs)) (v ∷ vs)
+record-written st k v [] h = last (field-written (st k) v (h .0) (h .1))
+record-written st k v (u ∷ vs) h = more (field-written (st k) v (h .0) (h .1)) (record-written st (suc k) u vs (h .2))

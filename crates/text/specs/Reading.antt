@@ -10,7 +10,7 @@
 --   afterLine w text    == where the second line begins, if the first is w
 --   over vs l           == l with its first numbers put over by vs
 --   Recorded ..         == what `record_at` is held to
-use Prim.Native.Nat.{ℕ, zero, suc, _+_, _*_, _-_}
+use Prim.Native.Nat.{ℕ, zero, suc, _+_, _*_, _-_, _<_}
 use mathlib.Core.Bool.{Bool, true, false, cond, _&&_, _||_}
 use mathlib.Core.List.{List, [], _∷_, _++_}
 use mathlib.Core.Path.{_≡_}
@@ -23,6 +23,11 @@ use Rattle.text.specs.declared.reading.End.the-variants as end
 
 abbrev pub byteAt : List ℕ → ℕ → ℕ
 byteAt text i = getD text i 0
+
+-- What `byte_at` is held to: a byte that is not 0 lies in the text.
+pub record ByteAt (text : List ℕ) (i b : ℕ) : Type 0 where
+  pub is : b ≡ byteAt text i
+  pub inside : 0 < b → i < length text
 
 -- A run of decimal digits: its value, how many digits it has, and where it ends.
 pub record Digits : Type 0 where

@@ -1,8 +1,7 @@
 // Reading: the numbers of a record, from a place of a text on.
 ghost use Prim.Native.Nat.{_<_};
 ghost use mathlib.Core.Path.{_≡_};
-ghost use lib.ListN.{length, getD};
-ghost use Rattle.text.specs.Reading.{numberAt, followed, fieldAt, cellAt, lineEnd, starts, afterLine, Recorded};
+ghost use Rattle.text.specs.Reading.{ByteAt, numberAt, followed, fieldAt, cellAt, lineEnd, starts, afterLine, Recorded};
 
 // A field's number and where its text ends.
 enum Cell {
@@ -18,8 +17,7 @@ pub enum End {
 
 // The byte at i; past the end 0, so that no test for a byte has to ask for the end first.
 fn byte_at(text: &[u8], i: usize) -> u8
-    ensures { λ r. ⌜ r ≡ getD (now (text .entry)) i 0 ⌝ }
-    ensures inside { λ r. ⌜ (0 < r → i < length (now (text .entry))) ⌝ }
+    ensures { λ r. ⌜ ByteAt (now (text .entry)) i r ⌝ }
 {
     if i < text.len() { text[i] } else { 0 }
 }
@@ -101,17 +99,14 @@ fn line_end(text: &[u8], at: usize) -> End
     if text.len() <= at {
         return End::Next(at);
     }
-    if byte_at(text, at) != b'\r' {
-        return End::Missing;
+    if (byte_at(text, at) == b'\r') & (byte_at(text, at + 1) == b'\n') {
+        return End::Next(at + 2);
     }
-    if byte_at(text, at + 1) != b'\n' {
-        return End::Missing;
-    }
-    End::Next(at + 2)
+    End::Missing
 }
 
-// A record: as many fields as `out` has places, parted by commas, and the line's end. Behind a field that is malformed
-// nothing is read, and `out` stays as it was from there on.
+// A record: as many fields as `out` has places, parted by commas, and the line's end. From a malformed field on nothing
+// is read, and `out` stays as it was. A text may be handed on whole or line by line.
 pub fn record_at(text: &[u8], at: usize, out: &mut [u32]) -> End
     ensures { λ r. ⌜ Recorded (now (text .entry)) at (now (out .entry)) r (now (out .exit)) ⌝ }
 {

@@ -1,6 +1,5 @@
 -- `read` meets its contract: 10, then 11, then line by line.
 use borrow.Author.Needs.{needs}
-use mathlib.Core.Path.{sym, _∙_}
 use borrow.Author.Tests.{lt-ltb, le-ltb}
 use Rattle.table.specs.Reading.{read}
 use Rattle.table.proofs.reading.read.Statement.{statement}

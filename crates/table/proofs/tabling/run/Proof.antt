@@ -14,7 +14,7 @@ returns c =
     let l3 = l4 .before in
     let l2 = l3 .before in
     rw (← l2 .before .list .ensures, ← l2 .list2 .ensures, ← l3 .list3 .ensures, ← l4 .list4 .ensures, ← l5 .list5 .ensures, ← l6 .list6 .ensures)
-    (rw (l7 .list7 .ensures ∙ sym (l4 .list4 .ensures)) at (s .simulate .ensures .1))
+    (rw (l7 .list7 .ensures ∙ sym (l4 .list4 .ensures)) at (s .simulate .ensures .writes))
 
 pub run-spec : {M : Type 1} → statement M
 run-spec =

@@ -7,4 +7,5 @@ use Rattle.table.proofs.writing.printed_line.Tie as tie
 pub printed-line-spec : {M : Type 1} → statement M
 printed-line-spec =
     tie.close
-    (tie.spec (λ c. search needs) (λ c. (rw (c .if1 .taken), omega arith)) (λ c. (rw (c .if1 .left), omega arith)))
+    (tie.spec (λ c. search needs) (λ c. record { is = rw (c .if1 .taken); small = omega arith })
+    (λ c. record { is = rw (c .if1 .left); small = omega arith }))

@@ -18,4 +18,4 @@ put-refusal-spec =
     let r = c .before .before in
     let t = r .before .before .before .before .before in
     let l = t .before .before .before in
-    rw (refusal-is _, ← l .before .tell .ensures, ← l .printed-line .ensures .0) (then (t .put-text .ensures) (r .put-record .ensures))))
+    rw (refusal-is _, ← l .before .tell .ensures, ← l .printed-line .ensures .is) (then (t .put-text .ensures) (r .put-record .ensures))))

@@ -7,7 +7,7 @@ use Rattle.text.proofs.reading.byte_at.Statement.{statement}
 use Rattle.text.proofs.reading.byte_at.Tie as tie
 
 returns-2 : tie.Need-returns-2
-returns-2 c = (sym (List·getD-eq-default (c .before .args .text .now) 0 (c .if1 .left)), λ h. absurd (omega arith))
+returns-2 c = record { is = sym (List·getD-eq-default (c .before .args .text .now) 0 (c .if1 .left)); inside = λ h. absurd (omega arith) }
 
 pub byte-at-spec : {M : Type 1} → statement M
 byte-at-spec = tie.close

@@ -6,16 +6,14 @@ use borrow.Author.Tests.{eq-eqb, ne-eqb}
 use Rattle.text.proofs.reading.followed.Statement.{statement}
 use Rattle.text.proofs.reading.followed.Tie as tie
 
--- `followed` meets its contract: the byte behind the number is the one asked for, or not.
-
 add-t8 : tie.Need-add-t8
-add-t8 c = omega (arith, c .before .byte-at .ensures .1 (omega arith))
+add-t8 c = omega (arith, c .before .byte-at .ensures .inside (omega arith))
 
 returns-2 : tie.Need-returns-2
-returns-2 c = rw (c .before .before .before .cell .given .1, eq-eqb _ _ (sym (c .before .byte-at .ensures .0) ∙ c .if1 .taken))
+returns-2 c = rw (c .before .before .before .cell .given .1, eq-eqb _ _ (sym (c .before .byte-at .ensures .is) ∙ c .if1 .taken))
 
 returns-3 : tie.Need-returns-3
-returns-3 c = rw (c .before .before .before .cell .given .1, ne-eqb _ _ (λ e. c .if1 .left (c .before .byte-at .ensures .0 ∙ e)))
+returns-3 c = rw (c .before .before .before .cell .given .1, ne-eqb _ _ (λ e. c .if1 .left (c .before .byte-at .ensures .is ∙ e)))
 
 pub followed-spec : {M : Type 1} → statement M
 followed-spec =
