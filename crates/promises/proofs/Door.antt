@@ -105,7 +105,7 @@ module _ (bs out : List ℕ) where
     refused-so :
         {r : Reason} → olda.answer (records bs) (length (room bs)) ≡ Refused r
         → (code r ≡ assigned bs (length out)) × (out ≡ assignedBytes bs out)
-    refused-so {r} q = answered bs out e (Refused r) (asked ∙ q) refl refl
+    refused-so {r} q = let w = answered bs out e (Refused r) (asked ∙ q) in (sym (w .0), sym (w .1))
 
     placed-so :
         {ds : List ℕ} (a : Answer)
@@ -114,11 +114,13 @@ module _ (bs out : List ℕ) where
         → AssignSays (records bs) (room bs) (olda.values a) ds
         → (0 ≡ assigned bs (length out)) × (encoded ds ≡ assignedBytes bs out)
     placed-so {ds} (Placed r) q acc h =
-        answered bs out e (Placed r) (asked ∙ q) refl (ap encoded (assign-answers (records bs) (room bs) .1 _ ds h .1))
+        let w = answered bs out e (Placed r) (asked ∙ q) in
+        (sym (w .0), ap encoded (assign-answers (records bs) (room bs) .1 _ ds h .1) ∙ sym (w .1))
     placed-so {ds} Nothing q acc h =
         let w = nothing-placed (records bs) (room bs) h refl in
         let none : length out ≡ 0 = omega (arith, fit-length bs (length out) e, size-records bs, w .0) in
-        answered bs out e Nothing (asked ∙ q) refl (ap encoded (w .1) ∙ nil (encoded []) (length-encoded []) ∙ sym (nil out none))
+        let a = answered bs out e Nothing (asked ∙ q) in
+        (sym (a .0), ap encoded (w .1) ∙ nil (encoded []) (length-encoded []) ∙ sym (nil out none) ∙ sym (a .1))
     placed-so (Refused r) q acc h = absurd (refused-number r acc)
 
     fitted : DoorAssignSays bs out (assigned bs (length out)) (assignedBytes bs out)
@@ -143,11 +145,11 @@ module _ (bs out : List ℕ) where
   says-so : DoorAssignSays bs out (assigned bs (length out)) (assignedBytes bs out)
   says-so =
       test (fitting bs (length out)) fitted
-      (λ n. let w = unfit bs out n in rw (← w .0, ← w .1) (says.lengths (λ h. clash (fits bs out h) n)))
+      (λ n. let w = unfit bs out n in rw (w .0, w .1) (says.lengths (λ h. clash (fits bs out h) n)))
 
   -- What RULES says is what the door returns and leaves.
   only : {n : ℕ} {l : List ℕ} → DoorAssignSays bs out n l → (n ≡ assigned bs (length out)) × (l ≡ assignedBytes bs out)
-  only (says.lengths h) = test (fitting bs (length out)) (λ e. absurd (h (whole bs out e))) (λ n. unfit bs out n)
+  only (says.lengths h) = test (fitting bs (length out)) (λ e. absurd (h (whole bs out e))) (λ n. let w = unfit bs out n in (sym (w .0), sym (w .1)))
   only (says.refused {n} {p} w h z) =
       let v = assign-answers (records bs) (room bs) .1 _ _ h .0 in
       let q = assign-refuses (olda.answer (records bs) (length (room bs))) v z in
@@ -192,7 +194,7 @@ module _ (bs ds : List ℕ) where
   checks-so =
       test (fitting bs (length ds))
       (λ e. by-answer e (checker.answer (records bs) (words ds (count bs))) refl)
-      (λ n. rw (← unfit-check bs ds n) (says.lengths (λ h. clash (fits bs ds h) n)))
+      (λ n. rw (unfit-check bs ds n) (says.lengths (λ h. clash (fits bs ds h) n)))
     where
       by-answer :
           fitting bs (length ds) ≡ true
@@ -200,25 +202,25 @@ module _ (bs ds : List ℕ) where
           → checker.answer (records bs) (words ds (count bs)) ≡ a
           → DoorCheckSays bs ds (checked bs ds)
       by-answer e check.Accepted q =
-          rw (← answered-check bs ds e check.Accepted q refl)
+          rw (answered-check bs ds e check.Accepted q)
           (says.met (whole bs ds e) (rw q at (check-answers (records bs) (words ds (count bs)) .0)))
       by-answer e (check.Refused r) q =
-          rw (← answered-check bs ds e (check.Refused r) q refl)
+          rw (answered-check bs ds e (check.Refused r) q)
           (says.refused (whole bs ds e) (rw q at (check-answers (records bs) (words ds (count bs)) .0)) (not-0 r))
 
   refused-check : {n p : ℕ} {vs : List ℤ} → Whole bs ds → CheckSays (records bs) (words ds (count bs)) (pos n ∷ pos p ∷ vs) → n ≢ 0 → n + 65_536 * p ≡ checked bs ds
   refused-check w h z =
       let v = check-answers (records bs) (words ds (count bs)) .1 _ h in
       let q = check-refuses (checker.answer (records bs) (words ds (count bs))) v z in
-      answered-check bs ds (fits bs ds w) (check.Refused (q .0)) (q .1) (omega (arith, q .2, q .3))
+      omega (arith, answered-check bs ds (fits bs ds w) (check.Refused (q .0)) (q .1), q .2, q .3)
 
   check-only : {n : ℕ} → DoorCheckSays bs ds n → n ≡ checked bs ds
-  check-only (says.lengths h) = test (fitting bs (length ds)) (λ e. absurd (h (whole bs ds e))) (λ n. unfit-check bs ds n)
+  check-only (says.lengths h) = test (fitting bs (length ds)) (λ e. absurd (h (whole bs ds e))) (λ n. sym (unfit-check bs ds n))
   check-only (says.refused w h z) = refused-check w h z
   check-only (says.met w h) =
-      answered-check bs ds (fits bs ds w) check.Accepted
-      (check-accepts (checker.answer (records bs) (words ds (count bs))) (check-answers (records bs) (words ds (count bs)) .1 _ h))
-      refl
+      sym
+      (answered-check bs ds (fits bs ds w) check.Accepted
+      (check-accepts (checker.answer (records bs) (words ds (count bs))) (check-answers (records bs) (words ds (count bs)) .1 _ h)))
 
 pub door-checks : DoorChecks
 door-checks bs ds = (checks-so bs ds, λ n h. check-only bs ds h)
@@ -256,11 +258,6 @@ door-agrees bs out z =
     omega (arith, m .0 i (in-places (size s) i k) .1, r .0 .ranges i k .deadline))
     in
     let same : length (encoded ds) ≡ length out = omega (arith, length-encoded ds, l, w .0 .1) in
-    let a : CheckSays s (words (encoded ds) (count bs)) (checker.values (checker.answer s (words (encoded ds) (count bs)))) =
-    check-answers s (words (encoded ds) (count bs)) .0
-    in
     rw (w .2)
-    (sym
     (answered-check bs (encoded ds) (fits bs (encoded ds) (w .0 .0, same ∙ w .0 .1)) check.Accepted
-    (check-taken (checker.answer s (words (encoded ds) (count bs))) (rw back (checker-agrees s ds (w .1))))
-    refl))
+    (check-taken (checker.answer s (words (encoded ds) (count bs))) (rw back (checker-agrees s ds (w .1)))))

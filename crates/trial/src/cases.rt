@@ -276,5 +276,5 @@ fn table(text: &[u8], at: &mut usize) {
 fn output(text: &[u8]) {
     let mut out = [0u8; 7203];
     let n = table::table(text, &mut out);
-    printing::start(&out, n);
+    printing::bytes(&out[..n]);
 }

@@ -22,14 +22,12 @@ pub(crate) fn list(numbers: &[u32]) {
     saying::list(numbers);
 }
 
-// The count of the first bytes of a text, and these bytes, each with a line end behind it.
-pub(crate) fn start(text: &[u8], n: usize) {
-    if n <= text.len() {
-        saying::number(n as u64);
-        say(b"\n");
-        say(&text[0..n]);
-        say(b"\n");
-    }
+// The count of the bytes of a text, and these bytes, each with a line end behind it.
+pub(crate) fn bytes(text: &[u8]) {
+    saying::number(text.len() as u64);
+    say(b"\n");
+    say(text);
+    say(b"\n");
 }
 
 // A refusal: its number and place, for number 3 the field, for number 5 completion and bound.
