@@ -28,7 +28,7 @@ use Rattle.subjobs.specs.declared.Judgement.the-variants as judged
 use Rattle.subjobs.specs.declared.Reason.the-variants.{Late}
 use Rattle.subjobs.specs.Sets.{Subjobs, subjobs, size}
 use Rattle.subjobs.specs.Terms.{Terms, terms, bound, slack, bySlack}
-use Rattle.subjobs.proofs.Fit.{Fit}
+use Rattle.subjobs.specs.Faults.{Fit}
 use Rattle.rules.specs.Method.{Outcome, placed, stuck, inOrder, steps, method}
 use Rattle.olda.specs.declared.Answer.{Answer}
 use Rattle.olda.specs.declared.Answer.the-variants as answered

@@ -14,7 +14,6 @@ use Rattle.text.proofs.Grammar.{record-read, record-cases, first-some, line-rea
 use Rattle.subjobs.specs.Reasons.{placeOf}
 use Rattle.table.specs.Format.{header, fields, Rows, Parsed, records, refused, Records, none, more, Begins, Reads, long, headless, malformed, many, table}
 use Rattle.table.specs.Reading.{recordsFrom, read}
-use Rattle.table.specs.Answers.{onParsed, answer}
 use Rattle.table.proofs.Filling.{records-end}
 
 never : {X : Type 0} {j : ℕ} → end.Missing ≡ end.Next j → X
@@ -120,11 +119,6 @@ told-read (table {text} {rows} b h) =
 -- A text is read as p exactly if that is what it says.
 pub read-exactly : (text : List ℕ) (p : Parsed) → (read text ≡ p) ↔ Reads text p
 read-exactly text p = (λ e. rw e at (reads text), told-read)
-
--- The whole output, by what the text is read as.
-pub answer-told : {text : List ℕ} {p : Parsed} → Reads text p → answer text ≡ onParsed p
-unfolding answer
-answer-told r = rw (told-read r)
 
 -- At most 128 records, or a refusal at one of their lines or at the next: the line that is printed is a small number.
 abbrev pub Within : Parsed → Type 0

@@ -3,18 +3,15 @@ use Prim.Native.Nat.{ℕ, zero, suc, _+_, _<_}
 use mathlib.Core.List.{List, _∷_, map}
 use mathlib.Core.Path.{_≡_, refl, ap, _∙_}
 use native.Mathlib.Omega.{arith}
-use lib.ListN.{replicate, length-replicate}
 use Rattle.lists.specs.Places.{from, places}
-use Rattle.subjobs.specs.declared.Judgement.the-variants.{Passed}
 use Rattle.subjobs.specs.Sets.{Subjobs, size}
-use Rattle.olda.specs.Answers as olda
 use Rattle.ticks.specs.Runs as ticks
 use Rattle.text.specs.Lines.{cut, linesOf}
 use Rattle.text.proofs.Printed.{IsLine, line-first, line-line}
 use Rattle.table.specs.Writing.{outHeader}
-use Rattle.table.specs.Answers.{lineAt, joined, accepted, verdictOf, tabled}
+use Rattle.table.specs.Answers.{lineAt, joined, accepted}
 use Rattle.table.proofs.Printing.{line-of}
-use Rattle.table.proofs.Outcomes.{Sound, in-time, accepted-sound, tabled-accepted}
+use Rattle.table.proofs.Outcomes.{Sound, in-time}
 
 joined-lines :
     (f : ℕ → List ℕ) (a n : ℕ) → ((i : ℕ) → i < a + n → IsLine (f i)) → linesOf (joined f (from a n)) ≡ map f (from a n)

@@ -13,7 +13,6 @@ use Prim.Native.Nat.{ℕ, _+_, _*_, _-_, _<_, _≤_}
 use mathlib.Core.List.{List, [], _∷_}
 use mathlib.Core.Path.{_≡_}
 use lib.ListN.{length, set, getD}
-use Rattle.subjobs.specs.declared.Reason.{Reason}
 use Rattle.subjobs.specs.Sets.{Subjobs}
 use Rattle.subjobs.specs.Layout.{listAt, laidOut}
 use Rattle.table.specs.declared.reading.Body.{Body}

@@ -34,10 +34,10 @@ pub assign-spec : {M : Type 1} → statement M
 assign-spec =
     tie.close
     (tie.spec
-    (search needs)
-    (search needs)
+    (λ c. search needs)
+    (λ c. search needs)
     (λ c. let j = c .before .before .before in judged-refused (Set j) (Out j) (j .judge .ensures) (c .before .judgement .given .1))
-    (search needs)
+    (λ c. search needs)
     (λ c κs.
     let t = c .before .before in
     let j = t .before .before in
@@ -46,8 +46,8 @@ assign-spec =
     let t = c .before .before in
     let j = t .before .before in
     judged-fits (Set j) (Out j) (j .judge .ensures) (t .enum-told .given .1))
-    (search needs)
-    (search needs)
+    (λ c. search needs)
+    (λ c. search needs)
     (λ c κs.
     let p = c .before .before .before in
     let j = judged p in

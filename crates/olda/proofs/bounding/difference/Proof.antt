@@ -19,7 +19,7 @@ pub difference-spec : {M : Type 1} → statement M
 difference-spec =
     tie.close
     (tie.spec
-    (search needs)
-    (search needs)
+    (λ c. search needs)
+    (λ c. search needs)
     (λ c. rw (told c) (sub-fits (c .args .a) (c .args .b) (search needs) (search needs)))
     (λ c. rw (told c) (toZ-ofZ (sub-fits (c .args .a) (c .args .b) (search needs) (search needs)))))

@@ -25,25 +25,25 @@ place-in-spec =
     (λ c κs.
     let o = c .before .before .before .before .before .before in
     room-placing (start (raised o) .pre) (o .in-order .ensures) (search needs) (search needs))
-    (search needs)
-    (search needs)
-    (search needs)
-    (search needs)
-    (search needs)
+    (λ c. search needs)
+    (λ c. search needs)
+    (λ c. search needs)
+    (λ c. search needs)
+    (λ c. search needs)
     (λ c.
     let a = c .before .before .before .before .before .before .before .before .before in
     let o = sorted a in
     room-refused (start (raised o) .pre) (o .in-order .ensures) (raised o .raise .ensures) (a .place-all .ensures) (c .before .judgement .given .1))
-    (search needs)
+    (λ c. search needs)
     (λ c κs.
     let a = c .before .before .before .before .before .before .before .before .before .before in
     let h = room-copying (start (raised (sorted a)) .pre) in
     search needs)
-    (search needs)
-    (search needs)
-    (search needs)
-    (search needs)
-    (search needs)
+    (λ c. search needs)
+    (λ c. search needs)
+    (λ c. search needs)
+    (λ c. search needs)
+    (λ c. search needs)
     (λ c.
     let m = c .before .before in
     let t = m .before .before .before in

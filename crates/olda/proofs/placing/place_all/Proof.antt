@@ -34,11 +34,11 @@ place-all-spec =
     (tie.spec
     Inv-loop
     μ-loop
-    (search needs)
+    (λ c. search needs)
     (λ c. search front)
     (λ c κs. search stepping-tails)
     (λ c. (search stepping-start, search needs, search needs, search needs))
-    (search needs)
+    (λ c. search needs)
     (λ c. search front)
     (λ c κs. search stepping-some)
     (λ c. search base-offset)
@@ -46,12 +46,12 @@ place-all-spec =
     (λ c. search base-offset)
     (λ c. search base-end)
     (λ c. search base-end)
-    (search needs)
+    (λ c. search needs)
     (λ c κs. let t = c .before .before .before in base-choosing (turn t .before .loop .inv .0) (t .base-tail .ensures))
     (λ c. search job-fits)
     (λ c. search job-offset)
     (λ c. search job-start)
-    (search needs)
+    (λ c. search needs)
     (λ c. search place-offset)
     (λ c.
     let i = c .before in
@@ -63,10 +63,10 @@ place-all-spec =
     let i = c .before .before .before in
     let t = tail i in
     job-bound (turn t .before .loop .inv .0) (t .base-tail .ensures) (job i .base-job .ensures) (i .index .ensures))
-    (search needs)
-    (search needs)
-    (search needs)
-    (search needs)
+    (λ c. search needs)
+    (λ c. search needs)
+    (λ c. search needs)
+    (λ c. search needs)
     (λ c.
     let i = c .before .before .before .before in
     let t = tail i in
@@ -99,7 +99,7 @@ place-all-spec =
       search needs,
       simp length-set (search needs),
     ))
-    (search needs)
-    (search needs)
-    (search needs)
+    (λ c. search needs)
+    (λ c. search needs)
+    (λ c. search needs)
     (λ c. search stepping-all))

@@ -10,8 +10,8 @@ take-out-spec =
     (λ c κs. search needs)
     (λ c κs. search needs)
     (λ c κs. search needs)
-    (search needs)
-    (search needs)
+    (λ c. search needs)
+    (λ c. search needs)
     (λ c.
     let r = c .before .before .before .before .before .before in
     record {

@@ -21,7 +21,7 @@ least-slack-spec =
     μ-loop
     (λ c. search (needs, tight-one))
     (λ c κs. search needs)
-    (search needs)
-    (search needs)
+    (λ c. search needs)
+    (λ c. search needs)
     (λ c. split (c .if1 .came) (λ w. rw (w .1) (search (needs, tight-new))) (λ w. rw (w .1) (search (needs, tight-old))))
     (λ c. search (needs, tight-all)))

@@ -14,10 +14,10 @@ report-spec =
     (tie.spec
     (λ c. search (needs, reported-none))
     (λ c κs. search needs)
-    (search needs)
-    (search needs)
-    (search needs)
-    (search needs)
+    (λ c. search needs)
+    (λ c. search needs)
+    (λ c. search needs)
+    (λ c. search needs)
     (λ c.
     reported-some (c .before .before .before .least-slack .ensures)
     (toZ-ofZ {w = w64} (sfits-of (c .difference .ok)) ∙ c .difference .ensures ∙ ap (subℕ _) (c .before .reach .ensures .0))))

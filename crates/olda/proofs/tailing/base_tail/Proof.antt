@@ -20,11 +20,11 @@ base-tail-spec =
     Inv-loop
     μ-loop
     (λ c. search (needs, leading-first))
-    (search needs)
-    (search needs)
-    (search needs)
-    (search needs)
-    (search needs)
-    (search needs)
+    (λ c. search needs)
+    (λ c. search needs)
+    (λ c. search needs)
+    (λ c. search needs)
+    (λ c. search needs)
+    (λ c. search needs)
     (λ c. split (c .if1 .came) (λ w. rw (w .1) (search (needs, leading-new))) (λ w. rw (w .1) (search (needs, leading-old))))
     (λ c. search (needs, leading-all)))
