@@ -4,6 +4,7 @@
 --   at xs i             == what stands at place i of a list
 --   rest k xs           == xs without what stands at k
 --   lessened k v ns     == ns with v taken off each of the first k
+--   total ns            == the sum of numbers
 --   completes r c xs    == the completion of places in release order: the release of the first plus all executions
 --   completions r c xs  == the completion of each tail of xs, that of all of xs first
 --   raise               == what upper bounds are raised by, so that none is negative
@@ -44,6 +45,9 @@ unfoldable pub lessened : ℕ → ℕ → List ℕ → List ℕ
 lessened zero v ns = ns
 lessened (suc k) v [] = []
 lessened (suc k) v (n ∷ ns) = (n - v) ∷ lessened k v ns
+
+abbrev pub total : List ℕ → ℕ
+total ns = weight (λ c. c) ns
 
 abbrev pub completes : (r c : ℕ → ℕ) → List ℕ → ℕ
 completes r c xs = r (at xs 0) + weight c xs
@@ -99,13 +103,18 @@ pub record Ranged (rs cs : List ℕ) (p : ℕ) : Type 0 where
   pub some : 1 ≤ at cs p
   pub execution : at cs p ≤ 1_000_000
 
--- A tail is added up.
+-- Executions are written in release order.
+pub record Ordering (cs xs es : List ℕ) : Type 0 where
+  pub room : length xs ≤ length es
+  pub known : Every (λ p. p < length cs) xs
+
+-- A tail of places in release order.
 pub record Tail (rs cs xs : List ℕ) : Type 0 where
   pub some : 0 < length xs
   pub few : length xs ≤ 128
   pub each : Every (Ranged rs cs) xs
 
--- All tails are.
+-- All tails are added up.
 pub record Tails (rs cs xs es : List ℕ) : Type 0 where
   pub room : length xs ≤ length es
   pub few : length xs ≤ 128

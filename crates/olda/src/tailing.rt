@@ -1,34 +1,50 @@
-// Tails: the sub-jobs released at or after one release, as parts of the places in release order; their completions, and
-// the search for the greatest. Callers know them by `completions` and `Greatest` alone, however they are added up.
-ghost use Prim.Native.Nat.{_<_};
+// Tails: the sub-jobs released at or after one release, as parts of the executions in release order; their completions,
+// and the search for the greatest. Callers know them by `completions` and `Greatest` alone, however they are added up.
+ghost use Prim.Native.Nat.{_+_, _<_};
 ghost use mathlib.Core.Path.{_≡_};
+ghost use mathlib.Core.List.{map};
 ghost use lib.ListN.{length, take};
-ghost use Rattle.olda.specs.Parts.{at, completes, completions, Tail, Tails, Greatest};
+ghost use Rattle.olda.specs.Parts.{at, total, completions, Ordering, Tails, Greatest};
 use crate::choosing::index;
 
-// The completion of one tail: the release of its first sub-job plus all its executions.
-fn completion(tail: &[u32], releases: &[u32], executions: &[u32]) -> u32
-    requires { ⌜ Tail (now releases) (now executions) (now tail) ⌝ }
-    ensures { λ m. ⌜ m ≡ completes (at (now (releases .entry))) (at (now (executions .entry))) (now (tail .entry)) ⌝ }
+// Writes the executions in release order.
+fn executions_in_order(order: &[u32], executions: &[u32], ends: &mut [u32])
+    requires { ⌜ Ordering (now executions) (now order) (now ends) ⌝ }
+    ensures { λ r. ⌜ take (length (now (order .entry))) (now (ends .exit)) ≡ map (at (now (executions .entry))) (now (order .entry)) ⌝ }
 {
-    let mut m = releases[index(tail[0])];
+    let mut i = 0;
+    while i < order.len() {
+        ends[i] = executions[index(order[i])];
+        i += 1;
+    }
+}
+
+// The completion of one tail: the release of its first sub-job plus all its executions.
+fn completion(release: u32, tail: &[u32]) -> u32
+    requires { ⌜ release + total (now tail) < 4294967296 ⌝ }
+    ensures { λ m. ⌜ m ≡ release + total (now (tail .entry)) ⌝ }
+{
+    let mut m = release;
     let mut i = 0;
     while i < tail.len() {
-        m += executions[index(tail[i])];
+        m += tail[i];
         i += 1;
     }
     m
 }
 
-// The completion of each tail, where it starts.
+// The completion of each tail, where it starts: what stands before i are completions already, from i on executions
+// still, the tail that is added next.
 pub(crate) fn completions(order: &[u32], releases: &[u32], executions: &[u32], ends: &mut [u32])
     requires { ⌜ Tails (now releases) (now executions) (now order) (now ends) ⌝ }
     ensures { λ r. ⌜ take (length (now (order .entry))) (now (ends .exit))
         ≡ completions (at (now (releases .entry))) (at (now (executions .entry))) (now (order .entry)) ⌝ }
 {
+    executions_in_order(order, executions, ends);
+    let n = order.len();
     let mut i = 0;
-    while i < order.len() {
-        ends[i] = completion(&order[i..], releases, executions);
+    while i < n {
+        ends[i] = completion(releases[index(order[i])], &ends[i..n]);
         i += 1;
     }
 }

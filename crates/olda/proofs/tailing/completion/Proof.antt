@@ -2,15 +2,15 @@
 use borrow.Author.Needs.{needs}
 use Prim.Native.Nat.{_-_}
 use lib.ListN.{length}
-use Rattle.olda.proofs.Adding.{Added, added-first, added-none, added-known, added-fits, added-more, added-all}
+use Rattle.olda.proofs.Adding.{Added, added-none, added-fits, added-more, added-all}
 use Rattle.olda.proofs.tailing.completion.Statement.{statement}
 use Rattle.olda.proofs.tailing.completion.Tie as tie
 
 abbrev Inv-loop : tie.InvT-loop
-Inv-loop tail releases executions m₀ i₀ m i = Added releases executions tail m i
+Inv-loop release tail m₀ i₀ m i = Added release tail m i
 
 abbrev μ-loop : tie.MeasureT-loop
-μ-loop tail releases executions m₀ i₀ m i = length tail - i
+μ-loop release tail m₀ i₀ m i = length tail - i
 
 pub completion-spec : {M : Type 1} → statement M
 completion-spec =
@@ -18,17 +18,10 @@ completion-spec =
     (tie.spec
     Inv-loop
     μ-loop
-    (λ c. search needs)
-    (λ c. search needs)
-    (λ c. search (needs, added-first))
-    (λ c. search (needs, added-first))
     (λ c. search (needs, added-none))
     (λ c. search needs)
     (λ c. search needs)
-    (λ c. search needs)
-    (λ c. search (needs, added-known))
-    (λ c. search (needs, added-known))
-    (λ c. search added-fits)
+    (λ c. search (needs, added-fits))
     (λ c. search needs)
     (λ c. search needs)
     (λ c. search (needs, added-more))
