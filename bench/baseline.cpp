@@ -1,4 +1,4 @@
-// The baselines. Each reads the 24-byte records, judges numbers 1 to 4 as document 01 says, and
+// The baselines. Each reads the 24-byte records, judges numbers 1 to 4 as the rules say, and
 // writes results only on acceptance: the same job as the library does.
 
 #include "baseline.h"

@@ -10,8 +10,7 @@
 #include "baseline.h"
 #include "charoktan.h"
 #include "dice.h"
-
-#include <ucontext.h>
+#include "painted.h"
 
 #include <algorithm>
 #include <cstdio>
@@ -224,48 +223,13 @@ int agree()
     return 0;
 }
 
-// One call on a stack of its own that was painted before: how far down the paint is gone.
-alignas(16) uint8_t painted[1 << 20];
-ucontext_t outside, inside;
-const Program *painted_program;
-Lent *painted_lent;
-uint8_t *painted_top;
-uint32_t painted_answer;
-
-void on_painted_stack()
-{
-    asm volatile("mov %%rsp, %0" : "=r"(painted_top));
-    painted_answer = call(*painted_program, *painted_lent);
-}
-
-size_t stack_of(const Program &program, Lent lent, uint8_t paint)
-{
-    std::memset(painted, paint, sizeof painted);
-    painted_program = &program;
-    painted_lent = &lent;
-    if (getcontext(&inside) != 0)
-        std::abort();
-    inside.uc_stack.ss_sp = painted;
-    inside.uc_stack.ss_size = sizeof painted;
-    inside.uc_link = &outside;
-    makecontext(&inside, on_painted_stack, 0);
-    if (swapcontext(&outside, &inside) != 0)
-        std::abort();
-    const uint8_t *lowest = std::find_if(std::begin(painted), std::end(painted),
-                                         [paint](uint8_t byte) { return byte != paint; });
-    if (painted_answer != call(program, lent))
-        std::abort();
-    return static_cast<size_t>(painted_top - lowest);
-}
-
 int stack()
 {
     for (const Program &program : programs) {
         size_t most = 0;
         for (const char *kind : {"accepted", "field", "pair", "late", "outside"})
-            for (const Lent &lent : sets_of(kind, 128))
-                for (uint8_t paint : {0x5a, 0xa5})
-                    most = std::max(most, stack_of(program, lent, paint));
+            for (Lent &lent : sets_of(kind, 128))
+                most = std::max(most, painted::depth([&program, &lent] { call(program, lent); }));
         std::printf("%s %zu\n", program.name, most);
     }
     return 0;

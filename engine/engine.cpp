@@ -146,22 +146,6 @@ Moments in_full(const Set &set)
     return taken;
 }
 
-const char *reason(charoktan::refusal number)
-{
-    switch (number) {
-    case charoktan::refusal::none: return "accepted";
-    case charoktan::refusal::lengths: return "the arrays' lengths do not belong together";
-    case charoktan::refusal::too_many: return "more than 128 sub-jobs";
-    case charoktan::refusal::field: return "a field is out of range";
-    case charoktan::refusal::pair: return "the pair of job and subtask was seen before";
-    case charoktan::refusal::late: return "its upper bound is below the completion";
-    case charoktan::refusal::outside:
-        return "its deadline is not between its earliest end and its upper bound";
-    case charoktan::refusal::missed: return "it would end after its deadline";
-    }
-    return "no number of the door";
-}
-
 void print_answer(const char *what, const Set &set, charoktan::answer answer)
 {
     if (answer.accepted()) {
@@ -175,7 +159,7 @@ void print_answer(const char *what, const Set &set, charoktan::answer answer)
         std::printf(" (door %u, %s)", static_cast<unsigned>(at.job),
                     stage_names[at.subtask % stage_count]);
     }
-    std::printf(": %s\n", reason(answer.number()));
+    std::printf(": %s\n", answer.text());
 }
 
 void print_run(const Set &set, const Moments &deadlines, const Moments &taken, const Play &run)

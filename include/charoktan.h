@@ -1,10 +1,11 @@
 /* Charoktan: local deadlines for the loading sub-jobs of one preemptive console core.
  *
- * For C11 and C++17 and later. Link libcharoktan.a (x86-64 Linux); of the C library it needs at
- * most memcpy and memset. A set is 0 to 128 sub-jobs, an array of the struct below; places in it count
- * from 0, time is counted in whole ticks. charoktan_assign gives every sub-job its local deadline
- * or refuses the set, charoktan_check judges deadlines that anybody proposes. The number that they
- * return and every byte that they write are proved, for all bytes and all lengths lent to them.
+ * For C11 and C++17 and later. Link libcharoktan.a; it is for x86-64 Linux, there is none for
+ * Windows, and of the C library it needs at most memcpy and memset. A set is 0 to 128 sub-jobs, an
+ * array of the struct below; places in it count from 0, time is counted in whole ticks.
+ * charoktan_assign gives every sub-job its local deadline or refuses the set, charoktan_check
+ * judges deadlines that anybody proposes. The number that they return and every byte that they
+ * write are proved, for all bytes and all lengths lent to them. docs/RULES.md has the rules.
  *
  * What the caller owes
  *
@@ -13,10 +14,8 @@
  *   - The two slices do not overlap.
  *   - During the call no other thread writes to either of them, nor reads the deadlines that
  *     charoktan_assign is writing.
- *   - A null pointer comes only with length 0. This was tried with the archive: it works, for
- *     either pointer and for both, and is the slice of no bytes. The engine in engine/ does it in
- *     each run.
- *   - The stack has room for one call: bench/run measures how much that is.
+ *   - A null pointer comes only with length 0; it is then the slice of no bytes.
+ *   - The stack has room for one call: enum charoktan_stack below, as measured.
  *
  * That is all. Every length may be given (the wrong ones are refusal 1), every content too, and no
  * address needs to be aligned.
@@ -28,22 +27,35 @@
  *     they held before. charoktan_check writes nothing.
  *   - No memory is allocated, no exception thrown, no state kept: any number of threads may call
  *     at once, also on the same records.
+ *
+ * Sanitizers: the archive is not instrumented. They do not see what it reads and writes, and
+ * MemorySanitizer takes the deadlines that it wrote for uninitialised: after an acceptance call
+ * __msan_unpoison on them.
  */
 #ifndef CHAROKTAN_H
 #define CHAROKTAN_H
 
+#if defined(__cplusplus)
+#if __cplusplus < 201703L
+#error "charoktan.h: C++17 or later is needed (-std=c++17)"
+#endif
+#elif !defined(__STDC_VERSION__) || __STDC_VERSION__ < 201112L
+#error "charoktan.h: C11 or later is needed (-std=c11)"
+#endif
+
+/* The calls are those of x86-64 Linux. The door reads little-endian numbers, and this header hands
+ * it the host's own. */
+#if defined(_WIN32)
+#error "charoktan.h: libcharoktan.a is for x86-64 Linux, and there is none for Windows"
+#elif !defined(__BYTE_ORDER__) || !defined(__ORDER_LITTLE_ENDIAN__)
+#error "charoktan.h: this compiler does not say that the host is little-endian"
+#elif __BYTE_ORDER__ != __ORDER_LITTLE_ENDIAN__
+#error "charoktan.h: the host is not little-endian"
+#endif
+
 #include <assert.h>
 #include <stddef.h>
 #include <stdint.h>
-
-/* The door reads little-endian numbers, and this header hands it the host's own. */
-#if defined(__BYTE_ORDER__) && defined(__ORDER_LITTLE_ENDIAN__)
-#if __BYTE_ORDER__ != __ORDER_LITTLE_ENDIAN__
-#error "charoktan.h: the host is not little-endian"
-#endif
-#elif !defined(_WIN32)
-#error "charoktan.h: this compiler does not say that the host is little-endian"
-#endif
 
 #if defined(__cplusplus)
 #define CHAROKTAN_INLINE constexpr
@@ -74,6 +86,16 @@ static_assert(sizeof(charoktan_subjob) == 24, "charoktan.h: six 32-bit numbers, 
 
 /* The most sub-jobs of a set. */
 enum { CHAROKTAN_SUBJOBS_MAX = 128 };
+
+/* The stack that one call takes at most, in bytes, on any set, with its return address and what
+ * memcpy and memset take. A small set takes as much as a large one. engine/stack.cpp measures it on
+ * painted stacks: the gate fails if a call takes more, or if no call takes three quarters. Where
+ * memset is bound at its first call, the dynamic linker's own stack comes on top (-Wl,-z,now binds
+ * it before). */
+enum charoktan_stack {
+    CHAROKTAN_STACK_ASSIGN = 6656, /* charoktan_assign */
+    CHAROKTAN_STACK_CHECK = 6144   /* charoktan_check */
+};
 
 /* The numbers that the door gives, and the place that comes with each. They are judged in this
  * order; 5 is charoktan_assign's alone, 6 and 7 are charoktan_check's. */
@@ -113,6 +135,23 @@ CHAROKTAN_INLINE uint32_t charoktan_place(uint32_t returned) CHAROKTAN_NOEXCEPT
     return returned / 65536U;
 }
 
+/* What a refusal number means, in a sentence. */
+CHAROKTAN_INLINE const char *charoktan_refusal_text(uint32_t number) CHAROKTAN_NOEXCEPT
+{
+    switch (number) {
+    case CHAROKTAN_ACCEPTED: return "The set is accepted.";
+    case CHAROKTAN_LENGTHS: return "The lengths are not 24 bytes of records and 4 of deadlines per sub-job.";
+    case CHAROKTAN_TOO_MANY: return "The set has more than 128 sub-jobs.";
+    case CHAROKTAN_FIELD: return "A field of this sub-job is out of its range.";
+    case CHAROKTAN_PAIR: return "An earlier sub-job has the same job and subtask.";
+    case CHAROKTAN_LATE: return "There is too much work to be done by this sub-job's upper bound.";
+    case CHAROKTAN_OUTSIDE:
+        return "The deadline is not between release plus execution and the upper bound.";
+    case CHAROKTAN_MISSED: return "By these deadlines this sub-job would end after its own.";
+    default: return "This is no number of the door.";
+    }
+}
+
 #if defined(__cplusplus)
 }
 
@@ -148,6 +187,10 @@ public:
         return static_cast<refusal>(charoktan_number(returned_));
     }
     [[nodiscard]] constexpr uint32_t place() const noexcept { return charoktan_place(returned_); }
+    [[nodiscard]] constexpr const char *text() const noexcept
+    {
+        return charoktan_refusal_text(charoktan_number(returned_));
+    }
 
 private:
     uint32_t returned_;

@@ -1,5 +1,6 @@
 // The stored cases: what `trial` reads and must answer, and the tables for `deadlines`.
-// First the edges by hand, then random cases around them; the seed is fixed.
+// First the edges by hand, then random cases around them; the seed is fixed. Whole tables by
+// another seed are written in the same form and stored nowhere.
 #include "commands.hpp"
 #include "sets.hpp"
 
@@ -228,7 +229,7 @@ static std::vector<Set> edge_sets() {
     set.job = {0, LARGEST, 0, LARGEST};
     set.subtask = {LARGEST, 0, 0, LARGEST};
     sets.push_back(set);
-    set = p4();  // document 01: execution 0 at place 0 and equal pairs at 1 and 2
+    set = p4();  // execution 0 at place 0 and equal pairs at 1 and 2
     set.execution[0] = 0;
     set.job[2] = set.job[1];
     sets.push_back(set);
@@ -239,6 +240,7 @@ static void assign_edges(Trial& trial, Dice& dice) {
     trial.ask_assign({}, {});
     for (const Set& set : {p2(), p3(), p4(), p5(), p6(), p7(), p8(), p9()})
         trial.ask_assign(set, random_list(dice, set.job.size()));
+    for (const Set& set : table_2()) trial.ask_assign(set, {0, 0});
 
     std::vector<Set> sets = unequal_sets();
     for (const Set& set : edge_sets()) sets.push_back(set);
@@ -261,6 +263,76 @@ static void assign_edges(Trial& trial, Dice& dice) {
     for (u32 release = 2; release <= 6; ++release)
         for (u32 third = 5; third <= 9; ++third)
             trial.ask_assign(set_of({{third, 2, 30}, {0, 4, 30}, {release, 3, 30}}), {9, 9, 9});
+}
+
+// Runs of one or two sub-jobs, and P10 from totals of 0.
+static void few_edges(Trial& trial) {
+    const auto one = [&](u32 release, u32 execution, u32 ask, const Totals& totals) {
+        trial.ask_simulate(set_of({{release, execution, 2'000'000'000}}), {LARGEST}, {ask}, {9},
+                           totals);
+    };
+    one(1'000'000'000, 1'000'000, LARGEST, {0, 0});
+    one(1'000'000'000, 1'000'000, 0, {0, 0});
+    one(7, 0, 1, {3, 4});
+    // 2 busy and 5 idle ticks, on both sides of number 8.
+    for (const Totals& totals : {Totals{MOST_TICKS - 2, 0}, Totals{MOST_TICKS - 1, 0},
+                                 Totals{0, MOST_TICKS - 5}, Totals{0, MOST_TICKS - 4},
+                                 Totals{LARGEST_64, LARGEST_64}})
+        one(5, 2, 2, totals);
+
+    // The smaller deadline; of two alike the smaller job; of two alike again the smaller subtask.
+    const auto two = [&](const List& jobs, const List& subtasks, const List& deadlines) {
+        Set set = set_of({{0, 2, 9}, {0, 2, 9}});
+        set.job = jobs;
+        set.subtask = subtasks;
+        trial.ask_simulate(set, deadlines, {2, 2}, {0, 0}, {0, 0});
+    };
+    two({1, 2}, {1, 1}, {5, 4});
+    two({2, 1}, {1, 9}, {4, 4});
+    two({3, 3}, {2, 1}, {4, 4});
+
+    for (const List& asks : {List{2, 1, 0, 5}, List{2, 2, 2, 1}, List{2, 1, 0}})
+        trial.ask_simulate(p4(), {2, 9, 8, 7}, asks, {0, 0, 0, 0}, {0, 0});
+}
+
+// Late releases and long idle stretches: before the first release, between two, and many of them.
+static void idle_edges(Trial& trial) {
+    trial.ask_simulate(set_of({{1'000'000'000, 3, 9}, {1'000'000'000, 2, 9}}), {7, 6}, {3, 2},
+                       {0, 0}, {0, 0});
+    trial.ask_simulate(set_of({{1'000'000'000, 1'000'000, 9}}), {7}, {LARGEST}, {0}, {0, 0});
+    trial.ask_simulate(set_of({{5, 3, 9}, {1'000'000'000, 2, 9}}), {7, 6}, {0, 2}, {0, 0}, {0, 0});
+
+    // Served at 5, then from `later` on: all ticks before that but three are idle.
+    for (u32 later : {9'000'000u, 9'000'001u, 400'000'000u, 999'999'999u, 1'000'000'000u}) {
+        const Set set = set_of({{5, 3, 2'000'000'000}, {later, 2, 2'000'000'000}});
+        for (u64 idle : {u64{0}, MOST_TICKS - (later - 3), MOST_TICKS - (later - 3) + 1})
+            trial.ask_simulate(set, {7, 6}, {3, 2}, {0, 0}, {0, idle});
+        trial.ask_check(set, {8, later + 2});
+        trial.ask_check(set, {8, later + 1});
+        trial.ask_check(set, {7, later + 2});
+        trial.ask_assign(set, {0, 0});
+    }
+
+    // Every 125,000,000 ticks one is released, and in the middle of its service a shorter one.
+    Set set;
+    List deadlines;
+    for (u32 k = 0; k < 16; ++k) {
+        const u32 turn = (k * 5 % 8) * 125'000'000;
+        set.job.push_back(k % 3);
+        set.subtask.push_back(k);
+        set.release.push_back(k < 8 ? turn : turn + 17);
+        set.execution.push_back(k < 8 ? 100'000 : 1000 + k);
+        set.deadline.push_back(2'000'000'000);
+        set.critical.push_back(k);
+        deadlines.push_back(k < 8 ? turn + 102'000 : turn + 90'000);
+    }
+    trial.ask_assign(set, List(16, 1));
+    trial.ask_check(set, deadlines);
+    trial.ask_simulate(set, deadlines, set.execution, List(16, 2), {7, 8});
+    // 40 ticks each: 640 busy, and 874,999,440 idle before the last 80.
+    for (u64 idle : {MOST_TICKS - 874'999'440, MOST_TICKS - 874'999'439})
+        trial.ask_simulate(set, deadlines, List(16, 40), List(16, 2), {7, idle});
+    trial.ask_simulate(set, List(16, 3), List(16, LARGEST), List(16, 2), {7, 8});
 }
 
 static void simulate_edges(Trial& trial, Dice& dice) {
@@ -308,15 +380,8 @@ static void simulate_edges(Trial& trial, Dice& dice) {
         trial.ask_simulate({}, wrong, {}, {}, {3, 4});
     }
 
-    // Late releases, and a long idle stretch between two.
-    trial.ask_simulate(set_of({{1'000'000'000, 3, 9}, {1'000'000'000, 2, 9}}), {7, 6}, {3, 2},
-                       {0, 0}, {0, 0});
-    trial.ask_simulate(set_of({{1'000'000'000, 1'000'000, 9}}), {7}, {LARGEST}, {0}, {0, 0});
-    trial.ask_simulate(set_of({{5, 3, 9}, {1'000'000'000, 2, 9}}), {7, 6}, {0, 2}, {0, 0}, {0, 0});
-    trial.ask_simulate(set_of({{5, 3, 9}, {9'000'000, 2, 9}}), {7, 6}, {3, 2}, {0, 0},
-                       {0, MOST_TICKS - 8'999'997});
-    trial.ask_simulate(set_of({{5, 3, 9}, {9'000'000, 2, 9}}), {7, 6}, {3, 2}, {0, 0},
-                       {0, MOST_TICKS - 8'999'996});
+    few_edges(trial);
+    idle_edges(trial);
     // A long one broken into by many short ones.
     Set set = set_of({{0, 400, 9}});
     for (u32 k = 0; k < 60; ++k) {
@@ -342,6 +407,12 @@ static void check_edges(Trial& trial, Dice& dice) {
     trial.ask_check(p7(), {0});
     trial.ask_check(p7(), {1});
     trial.ask_check(p7(), {LARGEST});
+    trial.ask_check(p2(), {1, 1});
+    for (u32 proposed : {1'000'999'999u, 1'001'000'000u, 2'000'000'000u, 2'000'000'001u})
+        trial.ask_check(p9(), {proposed});
+    for (const List& proposed : {List{20, 10}, List{21, 10}, List{20, 11}, List{0, 0}, List{4, 0},
+                                 List{LARGEST, 7}, List{4, LARGEST}})
+        trial.ask_check(p5(), proposed);
 
     // Every proposal around P5 and around a set of equal deadlines.
     for (u32 first = 3; first <= 8; ++first)
@@ -506,6 +577,63 @@ static void random_table(Trial& trial, Dice& dice) {
     trial.ask_table(text);
 }
 
+// ---------------------------------------------------------------- whole tables
+
+// A text as its lines, each with the line end behind it; the last may have none.
+static std::vector<std::string> lines_of(const std::string& text) {
+    std::vector<std::string> lines;
+    for (std::size_t at = 0; at < text.size();) {
+        const std::size_t end = text.find('\n', at);
+        const std::size_t next = end == std::string::npos ? text.size() : end + 1;
+        lines.push_back(text.substr(at, next - at));
+        at = next;
+    }
+    return lines;
+}
+
+// What spreadsheets, editors and hands do to a table: a line lost, doubled, moved, emptied or cut,
+// another line end, a field lost or added, a blank, other parting signs, a mark at the start, too
+// much text. Mostly behind the header.
+static void damage_lines(Dice& dice, std::string& text) {
+    std::vector<std::string> lines = lines_of(text);
+    const u32 count = static_cast<u32>(lines.size());
+    const u32 at = dice.chance(85) && count > 1 ? dice.between(1, count - 1) : 0;
+    const u32 other = dice.below(count);
+    std::string& line = lines[at];
+    switch (dice.below(16)) {
+    case 0: lines.erase(lines.begin() + at); break;
+    case 1: lines.insert(lines.begin() + at, std::string(lines[other])); break;
+    case 2: std::swap(line, lines[other]); break;
+    case 3: lines.insert(lines.begin() + at, "\r\n"); break;
+    case 4: line.resize(dice.below(static_cast<u32>(line.size()) + 1)); break;
+    case 5: std::erase(line, '\r'); break;
+    case 6: std::erase(line, '\n'); break;
+    case 7: line.insert(0, "0,"); break;
+    case 8: line.erase(0, line.find(',') + 1); break;
+    case 9: line.insert(dice.below(static_cast<u32>(line.size()) + 1), " "); break;
+    case 10: std::replace(line.begin(), line.end(), ',', ';'); break;
+    case 11: std::replace(line.begin(), line.end(), ',', '\t'); break;
+    case 12: std::erase(line, '"'); break;
+    case 13: lines.front().insert(0, "\xEF\xBB\xBF"); break;
+    case 14: lines.push_back("\r\n"); break;
+    default: lines.push_back(std::string(dice.chance(20) ? 16'384 : 3, '8'));
+    }
+    text.clear();
+    for (const std::string& one : lines) text += one;
+}
+
+// A whole table, up to 128 records and sometimes more, over the whole range of times; some are
+// damaged, some of these more than once.
+static void random_whole_table(Trial& trial, Dice& dice) {
+    const std::size_t n = dice.chance(25) ? dice.between(124, 131) : dice.between(0, 100);
+    Set set = random_set(dice, n);
+    while (n > 0 && dice.chance(10)) make_wrong(dice, set);
+    std::string text = random_text(dice, set);
+    while (!text.empty() && dice.chance(40)) damage_lines(dice, text);
+    if (!text.empty() && dice.chance(10)) damage(dice, text);
+    trial.ask_table(text);
+}
+
 // ---------------------------------------------------------------- the command
 
 static void write_file(const std::filesystem::path& path, const std::string& text) {
@@ -515,38 +643,53 @@ static void write_file(const std::filesystem::path& path, const std::string& tex
     if (!file) throw std::runtime_error("cannot write " + path.string());
 }
 
+// `trial` has room for a mebibyte of cases.
+static constexpr std::size_t ROOM = 1'048'576;
+
+static void write_trial(Trial& trial, const std::filesystem::path& folder) {
+    trial.ask_end();
+    if (trial.in.size() > ROOM) throw std::runtime_error("more cases than trial has room for");
+    std::filesystem::create_directories(folder);
+    write_file(folder / "trial.stdin", trial.in);
+    write_file(folder / "trial.stdout", trial.out);
+    std::cout << "assign " << trial.count[1] << ", simulate " << trial.count[2] << ", check "
+              << trial.count[3] << ", table " << trial.count[4] << " cases; "
+              << trial.in.size() + trial.out.size() << " bytes\n";
+}
+
 int write_cases(const std::string& folder) {
     Trial trial;
     Dice dice(20'240'601);
+    most_looks = 200'000'000;  // the edges by hand are few, and all of them are asked
     assign_edges(trial, dice);
     simulate_edges(trial, dice);
     check_edges(trial, dice);
     for (const NamedText& named : named_texts()) trial.ask_table(named.text);
     for (const std::string& text : further_texts()) trial.ask_table(text);
+    most_looks = 20'000'000;
     for (int k = 0; k < 480; ++k) {
         random_assign(trial, dice);
         random_simulate(trial, dice);
         random_check(trial, dice);
         random_table(trial, dice);
     }
-    trial.ask_end();
+    for (int k = 0; k < 30; ++k) random_whole_table(trial, dice);
 
     const std::filesystem::path top(folder);
+    write_trial(trial, top);
     std::filesystem::create_directories(top / "tables");
-    write_file(top / "trial.stdin", trial.in);
-    write_file(top / "trial.stdout", trial.out);
+    most_looks = 200'000'000;
     for (const auto& [name, text] : named_texts()) {
         write_file(top / "tables" / (name + ".in"), text);
         write_file(top / "tables" / (name + ".out"), table(text));
     }
+    return 0;
+}
 
-    const std::size_t bytes = trial.in.size() + trial.out.size();
-    std::cout << "assign " << trial.count[1] << ", simulate " << trial.count[2] << ", check "
-              << trial.count[3] << ", table " << trial.count[4] << " cases; " << bytes << " bytes; "
-              << named_texts().size() << " tables\n";
-    if (bytes >= 900'000) {
-        std::cerr << "the stored cases are to stay under 900,000 bytes\n";
-        return 1;
-    }
+int write_whole_tables(u64 count, u64 seed, const std::string& folder) {
+    Trial trial;
+    Dice dice(seed);
+    for (u64 k = 0; k < count; ++k) random_whole_table(trial, dice);
+    write_trial(trial, folder);
     return 0;
 }

@@ -1,9 +1,10 @@
-// The three things the second program does; each returns the exit status.
+// What the second program does; each returns the exit status.
 #pragma once
 
 #include "rules.hpp"
 
 int write_cases(const std::string& folder);
+int write_whole_tables(u64 count, u64 seed, const std::string& folder);
 int compare_door(u64 count, u64 seed, const std::vector<std::string>& runner);
 int check_self();
 
@@ -14,6 +15,7 @@ struct NamedText {
 };
 std::vector<NamedText> named_texts();
 std::vector<std::string> further_texts();
+std::string doors_table();
 
 // The table text of a set: bare numbers, every line ended.
 std::string plain_table(const Set& set);

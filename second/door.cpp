@@ -255,6 +255,7 @@ static void print(const Tally& tally) {
 int compare_door(u64 count, u64 seed, const std::vector<std::string>& command) {
     std::signal(SIGPIPE, SIG_IGN);  // a runner that is gone shows as a failed write
     constexpr u64 most = 256;
+    most_looks = 4'000'000;
     Dice dice(seed);
     Tally tally;
     Runner runner(command);

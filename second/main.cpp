@@ -1,4 +1,4 @@
-// The second program: document 01 once more, independently of the library, to hold it to.
+// The second program: docs/RULES.md once more, independently of the library, to hold it to.
 #include "commands.hpp"
 
 #include <cstdlib>
@@ -7,11 +7,13 @@
 
 static int usage() {
     std::cerr
-        << "second self                          check this program against document 01\n"
+        << "second self                          check this program against docs/RULES.md\n"
            "second cases DIR                     write the cases of trial and of deadlines\n"
+           "second whole COUNT SEED DIR          write COUNT random whole tables for trial\n"
+           "second table                         answer the table on standard input\n"
            "second door COUNT SEED [RUNNER ..]   compare COUNT door calls with the archive;\n"
            "                                     RUNNER is the command that starts the runner\n"
-           "                                     (or stands in CHAROKTAN_RUNNER)\n";
+           "                                     (or name it in CHAROKTAN_RUNNER)\n";
     return 2;
 }
 
@@ -25,10 +27,22 @@ static std::vector<std::string> runner_command(const std::vector<std::string>& w
     return command;
 }
 
+// By the rules, what the table program prints, however long it takes.
+static int answer_table() {
+    most_looks = ~u64{0};
+    std::ostringstream text;
+    text << std::cin.rdbuf();
+    std::cout << table(text.str()) << std::flush;
+    return std::cout ? 0 : 1;
+}
+
 int main(int count, char** arguments) try {
     const std::vector<std::string> words(arguments, arguments + count);
     if (words.size() == 2 && words[1] == "self") return check_self();
+    if (words.size() == 2 && words[1] == "table") return answer_table();
     if (words.size() == 3 && words[1] == "cases") return write_cases(words[2]);
+    if (words.size() == 5 && words[1] == "whole")
+        return write_whole_tables(std::stoull(words[2]), std::stoull(words[3]), words[4]);
     if (words.size() >= 4 && words[1] == "door")
         if (const auto runner = runner_command(words); !runner.empty())
             return compare_door(std::stoull(words[2]), std::stoull(words[3]), runner);

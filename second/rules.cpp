@@ -1,4 +1,4 @@
-// The assignment, the simulated core and the checker of document 01, by definition.
+// The assignment, the simulated core and the checker of docs/RULES.md, by definition.
 #include "rules.hpp"
 
 #include <algorithm>
@@ -171,8 +171,14 @@ bool condition_7(const Set& set, const List& d) {
 
 // ---------------------------------------------------------------- the simulated core
 
-// How often run_core looks at a place at most, before it throws: a fraction of a second.
-static constexpr u64 MOST_LOOKS = 20'000'000;
+// The smallest release of those still owed something.
+static u64 next_release(const Set& set, const List& owed,
+                        const std::array<u32, MOST_SUBJOBS>& served) {
+    u64 next = std::numeric_limits<u64>::max();
+    for (std::size_t place = 0; place < owed.size(); ++place)
+        if (served[place] < owed[place]) next = std::min(next, u64{set.release[place]});
+    return next;
+}
 
 Run run_core(const Set& set, const List& deadlines, const List& asks) {
     const std::size_t n = set.release.size();
@@ -182,29 +188,15 @@ Run run_core(const Set& set, const List& deadlines, const List& asks) {
         owed[place] = std::min(asks[place], set.execution[place]);
         still_owed += owed[place];
     }
+    if (still_owed * n > most_looks) throw TooManyTicks{};
 
     Run run;
     run.finish = set.release;  // and so it stays for one that is owed nothing
-    if (still_owed == 0) return run;
-
-    // Nobody who is owed anything is released before the smallest release of those owed
-    // something, so nobody is active and each tick before it is idle. The loop starts there; that
-    // is by definition the run from tick 0 on, and lets sets late in time be run one tick at a
-    // time.
-    u64 first = std::numeric_limits<u64>::max(), last = 0;
-    for (std::size_t place = 0; place < n; ++place)
-        if (owed[place] > 0) {
-            first = std::min(first, u64{set.release[place]});
-            last = std::max(last, u64{set.release[place]});
-        }
-    if ((last - first + still_owed) * n > MOST_LOOKS) throw TooManyTicks{};
-
     std::array<u32, MOST_SUBJOBS> served{};
     const auto order = [&](std::size_t place) {
         return std::tuple(deadlines[place], set.job[place], set.subtask[place]);
     };
-    run.idle = first;
-    for (u64 tick = first; still_owed > 0; ++tick) {
+    for (u64 tick = 0; still_owed > 0;) {
         std::optional<std::size_t> chosen;
         for (std::size_t place = 0; place < n; ++place) {
             const bool active = set.release[place] <= tick && served[place] < owed[place];
@@ -215,8 +207,13 @@ Run run_core(const Set& set, const List& deadlines, const List& asks) {
             run.finish[*chosen] = static_cast<u32>(tick + 1);
             ++run.busy;
             --still_owed;
+            ++tick;
         } else {
-            ++run.idle;
+            // Nobody is active in this tick, nor in any other before the next release: each of
+            // them is idle. They are counted without a look at each.
+            const u64 next = next_release(set, owed, served);
+            run.idle += next - tick;
+            tick = next;
         }
     }
     for (std::size_t place = 0; place < n; ++place)
@@ -256,7 +253,7 @@ Refused check(const Set& set, const List& proposed) {
     for (std::size_t place = 0; place < proposed.size() && !late; ++place)
         if (run.finish[place] > proposed[place]) late = Refusal{.number = 7, .place = place};
 
-    // The document says the same twice: accepted is (6) and (7), number 7 is a late finish.
+    // The rules say the same twice: accepted is (6) and (7), number 7 is a late finish.
     const bool none_late = !late;
     if (proposed.size() <= FEW && condition_7(set, proposed) != none_late)
         throw std::logic_error("condition (7) and the finishes disagree");

@@ -1,5 +1,6 @@
-// Document 01's rules, written as they stand there: every subset is looked at, every tick is one
-// turn of a loop. Nothing here is proved and nothing is fast; it is to be read beside the document.
+// The rules of docs/RULES.md, written as they are there: every subset is looked at, every tick in
+// which something is served is one turn of a loop. Nothing here is proved and nothing is fast; read
+// it beside that page.
 #pragma once
 
 #include <cstddef>
@@ -71,8 +72,10 @@ struct Run {
 };
 Run run_core(const Set& set, const List& deadlines, const List& asks);
 
-// Thrown by run_core instead of running for minutes. A case that meets it is not asked at all.
+// Thrown by run_core where it would look at places more often than this. A case that meets it is
+// not asked at all.
 struct TooManyTicks {};
+inline u64 most_looks = 20'000'000;  // some hundredths of a second
 
 struct Totals {
     u64 busy = 0, idle = 0;

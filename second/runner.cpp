@@ -3,7 +3,7 @@
 //
 // Each slice lies in a room of its own between two guard rooms that may not be touched, pressed to
 // the end of its room or to the start of it as the call asks: a read or write by the archive
-// outside the slice ends this program. The pipe's form is told in door.cpp.
+// outside the slice ends this program. door.cpp says how the pipe is written.
 #include <cstddef>
 #include <cstdint>
 #include <cstdio>

@@ -1,5 +1,5 @@
-// The second program's checks of itself: document 01's own cases, and each thing that the document
-// says in two ways, compared on many small sets.
+// The second program's checks of itself: the rules' own cases, and each thing that the rules say in
+// two ways, compared on many small sets.
 #include "commands.hpp"
 #include "sets.hpp"
 
@@ -42,7 +42,7 @@ static void expect_checked(const std::string& name, const Set& set, const List& 
            name);
 }
 
-static void edges_of_the_document() {
+static void edges_of_the_rules() {
     List none;
     const Assigned empty = assign({}, none);
     expect(!empty.refused && empty.nothing, "P1");
@@ -56,6 +56,13 @@ static void edges_of_the_document() {
     expect_refused_5("P7", p7(), 0, 1, -2);
     expect_refused_5("P8", p8(), 0, 4, 3);
     expect_placed("P9", p9(), {1'001'000'000}, 999'000'000, 0);
+
+    const std::vector<List> placed = {{100, 170}, {300, 730}, {400, 830}, {1100, 930}};
+    const std::vector<i64> slacks = {100, 0, 0, 0};
+    const Places tightest = {0, 1, 1, 0};
+    for (std::size_t core = 0; core < 4; ++core)
+        expect_placed("the paper's table 2", table_2()[core], placed[core], slacks[core],
+                      tightest[core]);
 
     List finishes(4, 77);
     Totals totals{100, 200};
@@ -142,7 +149,7 @@ static void accepted_sets(const Set& set, std::array<int, 2>& seen) {
 }
 
 int check_self() {
-    edges_of_the_document();
+    edges_of_the_rules();
 
     Dice dice(1);
     std::array<int, 2> assigned{};

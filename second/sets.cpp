@@ -45,6 +45,18 @@ Set p7() {
 Set p8() { return set_of({{0, 3, 3}, {1, 1, 2}}); }
 Set p9() { return set_of({{1'000'000'000, 1'000'000, 2'000'000'000}}); }
 
+// Jobs 1 and 2 on one core of the paper's table 2.
+static Set core_of_table_2(const List& releases, const List& executions, const List& criticals) {
+    return {{1, 2}, {1, 1}, releases, executions, {1100, 930}, criticals};
+}
+
+std::vector<Set> table_2() {
+    return {core_of_table_2({0, 0}, {100, 70}, {900, 630}),
+            core_of_table_2({100, 170}, {200, 430}, {700, 200}),
+            core_of_table_2({300, 730}, {100, 100}, {600, 100}),
+            core_of_table_2({400, 830}, {600, 100}, {0, 0})};
+}
+
 std::array<List*, 6> lists(Set& set) {
     return {&set.job, &set.subtask, &set.release, &set.execution, &set.deadline, &set.critical};
 }
@@ -88,8 +100,10 @@ Set random_set(Dice& dice, std::size_t n) {
 
     // The whole set's shape is drawn first: it decides how crowded the core is.
     const u32 count = static_cast<u32>(n);
-    const u32 spread = dice.one_of({0, 3, 3 + count, 3 + 2 * count, 20 + 4 * count});
-    const u32 longest = dice.one_of({1, 3, 3, 6});
+    const bool far_apart = dice.chance(8);  // idle for millions of ticks between releases
+    const u32 spread = far_apart ? dice.between(20'000'000, 900'000'000)
+                                 : dice.one_of({0, 3, 3 + count, 3 + 2 * count, 20 + 4 * count});
+    const u32 longest = far_apart ? dice.one_of({3, 100, 1000}) : dice.one_of({1, 3, 3, 6});
     const u32 room = dice.one_of({1, longest * count / 2, longest * count, 2 * longest * count});
     const u32 longest_critical = dice.one_of({0, 0, 4, 30});
     const bool touching = dice.chance(15);

@@ -1,5 +1,5 @@
 // Dice with a fixed course, and sets of sub-jobs made with them. Only whole numbers of fixed width
-// are used, and no two throws stand in one call's arguments (their order would be the compiler's
+// are used, and no call has two throws among its arguments (their order would be the compiler's
 // choice): the same seed gives the same sets on every machine.
 #pragma once
 
@@ -30,7 +30,7 @@ private:
 // A set from (release, execution, upper bound) triples: critical time 0, jobs 1, 2, .., subtask 1.
 Set set_of(const std::vector<std::array<u32, 3>>& triples);
 
-// The sets of document 01's P2 to P9.
+// The sets of the rules' P2 to P9.
 Set p2();
 Set p3();
 Set p4();
@@ -40,13 +40,19 @@ Set p7();
 Set p8();
 Set p9();
 
+// The paper's table 2, a set per core: two jobs go through four cores. On each they are released
+// when the core before is done with them; the critical time is what they still have to do behind
+// it.
+std::vector<Set> table_2();
+
 // The six lists in their order.
 std::array<List*, 6> lists(Set& set);
 
-// n sub-jobs, all fields in range and all pairs different, small times, sometimes late ones.
+// n sub-jobs, all fields in range and all pairs different, mostly of small times, sometimes late,
+// and sometimes far apart.
 Set random_set(Dice& dice, std::size_t n);
 
-// The same with every field at an end of its range. Its spans are too long for single ticks.
+// The same with every field at an end of its range. Some have more to serve than single ticks can.
 Set set_at_range_ends(Dice& dice, std::size_t n);
 
 // Something made wrong in a set that is not empty: a field out of range, or one pair made

@@ -1,4 +1,4 @@
-// Document 01's table program and the engine's door, on top of the rules.
+// The table program and the engine's door, on top of the rules.
 #include "rules.hpp"
 
 #include <initializer_list>

@@ -1,4 +1,4 @@
-// Table texts by hand: document 01's example, every refusal of a table, both sides of each edge.
+// Table texts by hand: the rules' example, every refusal of a table, both sides of each edge.
 #include "commands.hpp"
 #include "sets.hpp"
 
@@ -22,6 +22,13 @@ static std::string records(std::size_t n) {
 
 static std::string filled_up(std::string text, std::size_t length) {
     text.resize(length, '7');
+    return text;
+}
+
+// The doors, and behind them letters that nobody reads.
+static std::string doors_and_x(std::size_t length) {
+    std::string text = doors_table() + "\r\n";
+    text.resize(length, 'x');
     return text;
 }
 
@@ -50,11 +57,16 @@ std::vector<NamedText> named_texts() {
         {"quotes-some", HEAD + "1,\"0000000001\",0,\"2\",35,\"0\""},
         {"records-128", records(128)},
         {"records-128-no-last-line-end", without_last_line_end(records(128))},
+        {"doors-128", doors_table()},
+        {"years-apart", HEAD + "7,1,1000000000,3,2000000000,0\r\n7,2,5,1000,900000,10\r\n"
+                               "7,3,400000000,2,400000009,0\r\n7,4,400000001,2,400000009,4\r\n"},
 
         {"refused-2-records-129", records(129)},
         {"refused-2-malformed-129th", records(128) + "no record"},
         {"refused-2-empty-129th", records(128) + "\r\n"},
         {"refused-2-bytes-16384", filled_up(records(128), 16'384)},
+        {"refused-2-doors-empty-129th", doors_table() + "\r\n\r\n"},
+        {"refused-2-doors-bytes-16384", doors_and_x(16'384)},
         {"refused-12-before-2", without_last_line_end(records(128)) + ",\r\n1,1,1,1,1,1\r\n"},
 
         {"refused-3-release", third("3,1,1000000001,1,2000000000,0")},
@@ -69,6 +81,7 @@ std::vector<NamedText> named_texts() {
 
         {"refused-10", filled_up(EXAMPLE, 16'385)},
         {"refused-10-before-11", filled_up("", 16'385)},
+        {"refused-10-doors", doors_and_x(16'385)},
         {"refused-12-bytes-16384", filled_up(EXAMPLE, 16'384)},
 
         {"refused-11-empty", ""},

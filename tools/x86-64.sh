@@ -9,6 +9,8 @@
 #                                 to be called after x86_64_compiler
 #   x86_64_archive                sets x86_64_library, the archive, made by rt if it is missing or
 #                                 older than a file of the crates
+#   x86_64_kit                    sets the array x86_64_program (the words to put before a program
+#                                 that rt built: the kit's loader, and its emulator where it has one)
 #
 # CHAROKTAN_ARCHIVE names an archive to take in the place of the tree's own. Link no program with
 # -static: Debian's cross compiler has no static libm that links.
@@ -57,6 +59,14 @@ x86_64_compiler() {
         x86_64_qemu
         x86_64_start=("${x86_64_emulator[@]}")
     fi
+}
+
+x86_64_kit() {
+    local kit
+    command -v rt >/dev/null || x86_64_fail "rt, Rattle's command, is not on the PATH"
+    kit=$(dirname "$(dirname "$(rt doc)")")/on/$(uname -m)/toolchain
+    x86_64_program=("$kit/lib/ld-linux-x86-64.so.2" --library-path "$kit/lib")
+    [ ! -x "$kit/bin/qemu-x86_64" ] || x86_64_program=("$kit/bin/qemu-x86_64" "${x86_64_program[@]}")
 }
 
 x86_64_archive() {

@@ -1,83 +1,60 @@
--- Laws of the engine's bytes: where a record's number lies, and one more number read or written.
-use Prim.Native.Nat.{ℕ, zero, suc, _+_, _-_, _*_, _/_, _%_, _≤_, _<_}
+-- Laws of the engine's bytes: one more number read or written, and numbers read back from their bytes.
+use Prim.Native.Nat.{ℕ, zero, suc, _+_, _*_, _/_, _%_, _≤_, _<_}
 use mathlib.Core.List.{List, [], _∷_, _++_, append-nil}
 use mathlib.Core.Path.{_≡_, refl, sym, ap, _∙_}
-use native.Mathlib.Nat.{mul-le-mul-left, mul-suc}
+use native.Mathlib.Nat.{add-zero}
 use native.Mathlib.Numerals.{add-one}
 use native.Mathlib.Omega.{arith}
-use lib.ListN.{length, getD, set, take, drop, length-append, length-take, length-drop, drop-of-length-le}
-use lib.Seq.{take-set-le, drop-set-lt, drop-set-add, length-take-le, take-suc-set, take-suc, take-at, drop-at, take-all, take-take, take-append-le, drop-append-le, drop-append-add, drop-drop}
-use lib.Dec.{ltb}
-use Rattle.subjobs.specs.declared.Reason.{Reason}
-use Rattle.subjobs.specs.declared.Reason.the-variants.{Lengths, TooMany, Range, Pair, Late, Unmet, Missed, Totals, TextTooLong, Header, Malformed}
-use Rattle.subjobs.specs.Reasons.{numberOf}
+use lib.ListN.{length, getD, set, take, drop, length-append, length-take, drop-of-length-le}
+use lib.Seq.{take-suc-set, take-suc, take-at, take-all, drop-append-add, drop-drop}
+use Rattle.subjobs.specs.Layout.{listAt}
 use Rattle.subjobs.specs.Sets.{subjobs}
-use Rattle.lists.proofs.Cases.{test, tests}
-use Rattle.lists.proofs.Mapped.{part-within}
+use Rattle.subjobs.proofs.LaidOut.{laid-here}
 use Rattle.charoktan.specs.Records.{Fields, bytes, column, count, encoded, records, word, words}
 
--- The number at byte k of record i lies inside.
-pub inside : (w i k n l : ℕ) → i < n → k + 4 ≤ w → w * n ≤ l → w * i + k + 4 ≤ l
-inside w i k n l h b e = omega (arith, mul-le-mul-left w h, mul-suc w i)
-
--- One more number read.
-pub column-more :
-    (bs out : List ℕ) (w k i v : ℕ) → i < length out → take i out ≡ column bs w k i → v ≡ word bs (w * i + k)
-    → take (i + 1) (set out i v) ≡ column bs w k (i + 1)
+-- One more number read,
+pub words-more :
+    (bs out : List ℕ) (i v : ℕ) → i < length out → take i out ≡ words bs i → v ≡ word bs (4 * i)
+    → take (i + 1) (set out i v) ≡ words bs (i + 1)
 unfolding column
-column-more bs out w k i v h e q = rw (add-one, take-suc-set out i v h, e, q)
+words-more bs out i v h e q = rw (add-one, take-suc-set out i v h, e, q, add-zero)
+
+-- one more of a field,
+pub field-more :
+    (bs l : List ℕ) (n k i v : ℕ)
+    → n * k + i < length l
+    → listAt l n k i ≡ column bs 24 (4 * k) i
+    → v ≡ word bs (24 * i + 4 * k)
+    → listAt (set l (n * k + i) v) n k (i + 1) ≡ column bs 24 (4 * k) (i + 1)
+unfolding column
+field-more bs l n k i v h e q = laid-here l n k i v h ∙ rw (e, q, add-one i)
+
+-- and all of them: the set that the bytes hold.
+pub fields-records :
+    (bs l js ks rs cs ds zs : List ℕ)
+    → Fields bs (count bs) (count bs) l
+    → js ≡ listAt l (count bs) 0 (count bs)
+    → ks ≡ listAt l (count bs) 1 (count bs)
+    → rs ≡ listAt l (count bs) 2 (count bs)
+    → cs ≡ listAt l (count bs) 3 (count bs)
+    → ds ≡ listAt l (count bs) 4 (count bs)
+    → zs ≡ listAt l (count bs) 5 (count bs)
+    → subjobs js ks rs cs ds zs ≡ records bs
+unfolding records
+fields-records bs l js ks rs cs ds zs t a b c d e f =
+    rw (
+      a ∙ t 0 (omega arith),
+      b ∙ t 1 (omega arith),
+      c ∙ t 2 (omega arith),
+      d ∙ t 3 (omega arith),
+      e ∙ t 4 (omega arith),
+      f ∙ t 5 (omega arith),
+    )
 
 pub length-column : (bs : List ℕ) (w k n : ℕ) → length (column bs w k n) ≡ n
 unfolding column
 length-column bs w k zero = refl
 length-column bs w k (suc n) = simp length-append (omega (arith, length-column bs w k n))
-
--- A number written outside a part leaves it, one written behind what was read of a column is one more.
-part-before : (l : List ℕ) (a m p v : ℕ) → p < a → take m (drop a (set l p v)) ≡ take m (drop a l)
-part-before l a m p v h = ap (take m) (drop-set-lt a l p v h)
-
-part-after : (l : List ℕ) (a m p v : ℕ) → a + m ≤ p → take m (drop a (set l p v)) ≡ take m (drop a l)
-part-after l a m p v h =
-    let z : p ≡ a + (p - a) = omega arith in
-    rw (z, drop-set-add a l (p - a) v) (take-set-le m (drop a l) (p - a) v (omega arith))
-
-part-here :
-    (bs l : List ℕ) (a k i v : ℕ)
-    → a + i < length l
-    → take i (drop a l) ≡ column bs 24 k i
-    → v ≡ word bs (24 * i + k)
-    → take (i + 1) (drop a (set l (a + i) v)) ≡ column bs 24 k (i + 1)
-part-here bs l a k i v h e q =
-    rw (drop-set-add a l i v) (column-more bs (drop a l) 24 k i v (simp length-drop (omega arith)) e q)
-
--- One more field of record i.
-module _ (bs l : List ℕ) (n i k v : ℕ) (h : i < n) (fits : 6 * n ≤ length l) (six : k < 6) (q : v ≡ word bs (24 * i + 4 * k)) where
-  apart : (a b : ℕ) → a < b → n * a + n ≤ n * b
-  apart a b w = omega (arith, mul-le-mul-left n w, mul-suc n a)
-
-  pub field-read :
-      ((j : ℕ) → j < k → take (i + 1) (drop (n * j) l) ≡ column bs 24 (4 * j) (i + 1))
-      → take i (drop (n * k) l) ≡ column bs 24 (4 * k) i
-      → (j : ℕ)
-      → j < k + 1
-      → take (i + 1) (drop (n * j) (set l (n * k + i) v)) ≡ column bs 24 (4 * j) (i + 1)
-  field-read done here j w =
-      test (ltb j k)
-      (λ y.
-      let z : j < k = omega tests in
-      part-after l (n * j) (i + 1) (n * k + i) v (omega (arith, apart j k z)) ∙ done j z)
-      (λ y.
-      let z : j ≡ k = omega tests in
-      rw z (part-here bs l (n * k) (4 * k) i v (omega (arith, apart k 6 six)) here q))
-
-  pub field-left :
-      ((j : ℕ) → k ≤ j → j < 6 → take i (drop (n * j) l) ≡ column bs 24 (4 * j) i)
-      → (j : ℕ)
-      → k + 1 ≤ j
-      → j < 6
-      → take i (drop (n * j) (set l (n * k + i) v)) ≡ column bs 24 (4 * j) i
-  field-left rest j w u =
-      part-before l (n * j) i (n * k + i) v (omega (arith, apart k j (omega arith))) ∙ rest j (omega arith) u
 
 pub length-encoded : (vs : List ℕ) → length (encoded vs) ≡ 4 * length vs
 unfolding encoded
@@ -151,67 +128,3 @@ words-encoded vs n l b =
 -- Nothing of what was there is left.
 pub all-written : (new old : List ℕ) (n : ℕ) → length old ≡ n → new ++ drop n old ≡ new
 all-written new old n e = rw (drop-of-length-le old {i = n} (omega arith), append-nil)
-
--- A list put behind the six leaves them and stands there.
-pub put-behind :
-    (bs f col rest : List ℕ) (n m : ℕ)
-    → m ≡ 6 * n
-    → m ≤ length f
-    → length col ≡ n
-    → Fields bs n n f
-    → Fields bs n n (take m f ++ (col ++ rest)) × (take n (drop (n * 6) (take m f ++ (col ++ rest))) ≡ col)
-put-behind bs f col rest n m e h l t =
-    let z = length-take-le m f h in
-    let w : n * 6 ≡ m = omega arith in (
-      λ k u.
-          let v : n * k + n ≤ m = omega (arith, mul-le-mul-left n u, mul-suc n k) in
-          rw (
-            drop-append-le (n * k) (take m f) (col ++ rest) (omega arith),
-            take-append-le n (drop (n * k) (take m f)) (col ++ rest) (simp length-drop (omega arith)),
-            ← part-within f m (n * k) (omega arith),
-            take-take n (m - n * k) (drop (n * k) f) (omega arith),
-          )
-          (t k u),
-      rw (w, drop-at (take m f) (col ++ rest) m z) (take-at col rest n l),
-    )
-
--- The lists that stand one after the other are the set that the bytes hold.
-pub columns-set :
-    (bs f : List ℕ) (n : ℕ)
-    → n ≡ count bs
-    → Fields bs n n f
-    → (js ks rs cs ds zs : List ℕ)
-    → js ≡ take n (drop (n * 0) f)
-    → ks ≡ take n (drop (n * 1) f)
-    → rs ≡ take n (drop (n * 2) f)
-    → cs ≡ take n (drop (n * 3) f)
-    → ds ≡ take n (drop (n * 4) f)
-    → zs ≡ take n (drop (n * 5) f)
-    → subjobs js ks rs cs ds zs ≡ records bs
-unfolding records
-columns-set bs f n h t js ks rs cs ds zs a b c d e g =
-    let is : (i : ℕ) → i < 6 → (l : List ℕ) → l ≡ take n (drop (n * i) f) → l ≡ column bs 24 (4 * i) (count bs) =
-    λ i w l q. q ∙ t i w ∙ ap (column bs 24 (4 * i)) h
-    in
-    rw (
-      is 0 (omega arith) js a,
-      is 1 (omega arith) ks b,
-      is 2 (omega arith) rs c,
-      is 3 (omega arith) cs d,
-      is 4 (omega arith) ds e,
-      is 5 (omega arith) zs g,
-    )
-
--- The numbers of refusals are small, and none is 0.
-pub number-range : (r : Reason) → (1 ≤ numberOf r) × (numberOf r ≤ 12)
-number-range Lengths = omega arith
-number-range TooMany = omega arith
-number-range (Range p f) = omega arith
-number-range (Pair p) = omega arith
-number-range (Late p m b) = omega arith
-number-range (Unmet p) = omega arith
-number-range (Missed p) = omega arith
-number-range Totals = omega arith
-number-range TextTooLong = omega arith
-number-range Header = omega arith
-number-range (Malformed l) = omega arith

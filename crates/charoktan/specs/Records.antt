@@ -3,18 +3,21 @@
 --   word bs at       == the 32-bit little-endian number at byte at
 --   column bs w k n  == the numbers at byte k of each of n records of w bytes
 --   records bs       == the set that the bytes hold
---   Fields bs n i l  == the six fields of the first i records stand in l, in lists n places apart
+--   Fields bs n i l  == the six fields of the first i records stand in l, in lists laid out n places apart
+--   Reading bs n i l == that, with record i of n to be read next, and room for it
 --   bytes v          == the four bytes of a number, little-endian
 --   encoded vs       == the bytes of a list of numbers
 --   words bs n       == the n numbers that these bytes hold
 --   fitting bs m     == the lengths fit: whole records, and 4 bytes of results for each
-use Prim.Native.Nat.{ℕ, zero, suc, _+_, _*_, _/_, _%_, _<_}
-use mathlib.Core.Bool.{Bool, _&&_}
+--   Rooms bs ds fs l == the lengths fit, fs has room for the six fields, and l, all zeros, for one list more
+use Prim.Native.Nat.{ℕ, zero, suc, _+_, _*_, _/_, _%_, _≤_, _<_}
+use mathlib.Core.Bool.{Bool, true, _&&_}
 use mathlib.Core.List.{List, [], _∷_, _++_}
 use mathlib.Core.Path.{_≡_}
 use lib.Dec.{eqb}
-use lib.ListN.{length, getD, take, drop}
+use lib.ListN.{length, getD, replicate}
 use Rattle.subjobs.specs.Sets.{Subjobs, subjobs}
+use Rattle.subjobs.specs.Layout.{listAt}
 
 abbrev pub word : List ℕ → ℕ → ℕ
 word bs at =
@@ -34,9 +37,15 @@ records bs =
     let field : ℕ → List ℕ = λ k. column bs 24 k (count bs) in
     subjobs (field 0) (field 4) (field 8) (field 12) (field 16) (field 20)
 
--- the same six fields of i records, in lists that stand n places apart: what the code has read
+-- the same six fields of i records, in lists laid out n places apart: what the code has read
 abbrev pub Fields : List ℕ → (n i : ℕ) → List ℕ → Type 0
-Fields bs n i l = (k : ℕ) → k < 6 → take i (drop (n * k) l) ≡ column bs 24 (4 * k) i
+Fields bs n i l = (k : ℕ) → k < 6 → listAt l n k i ≡ column bs 24 (4 * k) i
+
+pub record Reading (bs : List ℕ) (n i : ℕ) (l : List ℕ) : Type 0 where
+  pub next : i < n
+  pub inside : 24 * n ≤ length bs
+  pub room : 6 * n ≤ length l
+  pub fields : Fields bs n i l
 
 -- results are 4 bytes little-endian each
 abbrev pub bytes : ℕ → List ℕ
@@ -52,3 +61,11 @@ words bs n = column bs 4 0 n
 -- A length that is not a multiple of 24, or a deadline slice that is not 4 bytes per sub-job, is refusal 1.
 abbrev pub fitting : List ℕ → ℕ → Bool
 fitting bs m = eqb (length bs % 24) 0 && eqb m (4 * count bs)
+
+-- What the work on whole records is lent.
+pub record Rooms (bs ds fs l : List ℕ) : Type 0 where
+  pub fits : fitting bs (length ds) ≡ true
+  pub few : count bs ≤ 128
+  pub fields : 6 * count bs ≤ length fs
+  pub list : count bs ≤ length l
+  pub zeros : l ≡ replicate (length l) 0

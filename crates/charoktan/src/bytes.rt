@@ -3,7 +3,8 @@ ghost use Prim.Native.Nat.{_+_, _*_, _≤_, _<_};
 ghost use mathlib.Core.Path.{_≡_};
 ghost use mathlib.Core.List.{_++_};
 ghost use lib.ListN.{length, take, drop};
-ghost use Rattle.charoktan.specs.Records.{word, column, Fields, bytes, encoded};
+ghost use Rattle.charoktan.specs.Records.{word, words, Fields, Reading, bytes, encoded};
+ghost use Rattle.subjobs.specs.Layout.{listAt};
 
 fn wide(x: u8) -> u32
     ensures { λ r. ⌜ (r ≡ x) × (r < 256) ⌝ }
@@ -22,21 +23,21 @@ fn word(bytes: &[u8], at: usize) -> u32
         + 16_777_216 * wide(bytes[at + 3])
 }
 
-// The numbers at one byte of each record, as many as `out` has places.
-pub(crate) fn column(bytes: &[u8], width: usize, at: usize, out: &mut [u32])
-    requires { ⌜ (width * length (now out) ≤ length (now bytes)) × (at + 4 ≤ width) ⌝ }
-    ensures { λ _. ⌜ now (out .exit) ≡ column (now (bytes .entry)) width at (length (now (out .entry))) ⌝ }
+// The numbers that the bytes hold, as many as `out` has places.
+pub(crate) fn words(bytes: &[u8], out: &mut [u32])
+    requires { ⌜ 4 * length (now out) ≤ length (now bytes) ⌝ }
+    ensures { λ _. ⌜ now (out .exit) ≡ words (now (bytes .entry)) (length (now (out .entry))) ⌝ }
 {
     let mut i = 0;
     while i < out.len() {
-        out[i] = word(bytes, width * i + at);
+        out[i] = word(bytes, 4 * i);
         i += 1;
     }
 }
 
 // The six fields of record i, each to the list of its field; the lists stand n places apart.
 fn record(bytes: &[u8], i: usize, n: usize, out: &mut [u32])
-    requires { ⌜ (i < n) × (24 * n ≤ length (now bytes)) × (6 * n ≤ length (now out)) × Fields (now bytes) n i (now out) ⌝ }
+    requires { ⌜ Reading (now bytes) n i (now out) ⌝ }
     ensures { λ _. ⌜ Fields (now (bytes .entry)) n (i + 1) (now (out .exit)) ⌝ }
 {
     let mut k = 0;
@@ -60,10 +61,10 @@ pub(crate) fn columns(bytes: &[u8], n: usize, out: &mut [u32])
 
 // The k-th of the lists of n numbers that stand one after the other.
 pub(crate) fn field(lists: &[u32], n: usize, k: usize) -> &[u32]
-    requires { ⌜ (k < 7) × (n * k + n ≤ length (now lists)) ⌝ }
-    ensures { λ r. ⌜ now r ≡ take n (drop (n * k) (now (lists .entry))) ⌝ }
+    requires { ⌜ n * k + n ≤ length (now lists) ⌝ }
+    ensures { λ r. ⌜ now r ≡ listAt (now (lists .entry)) n k n ⌝ }
 {
-    &lists[n * k..n * (k + 1)]
+    &lists[n * k..n * k + n]
 }
 
 // The four bytes of a number, at a byte.

@@ -1,4 +1,3 @@
-pub mod Searches
 pub mod Accepts
 pub mod Runs
 pub mod Reported

@@ -1,12 +1,12 @@
 // Conditions (6) and (7) at the smallest place that fails them.
-ghost use Prim.Native.Nat.{_+_, _≤_};
+ghost use Prim.Native.Nat.{_+_};
 ghost use mathlib.Core.Path.{_≡_};
-ghost use lib.Dec.{leb, eqb};
+ghost use lib.Dec.{leb};
 ghost use lib.ListN.{length, getD};
-ghost use Rattle.subjobs.specs.declared.Judgement.the-variants.{Passed};
 ghost use Rattle.subjobs.specs.Sets.{subjobs};
-ghost use Rattle.subjobs.specs.Judging.{judgement, firstRefusal};
+ghost use Rattle.subjobs.specs.Judging.{firstRefusal};
 ghost use Rattle.checker.specs.Answers.{sixAt, sevenAt, seven};
+ghost use Rattle.checker.specs.Parts.{sixIn, Alike, Ready};
 use edf::Totals;
 use subjobs::Judgement;
 use subjobs::Reason;
@@ -44,8 +44,11 @@ pub(crate) fn six(
     criticals: &[u32],
     proposed: &[u32],
 ) -> Judgement
-    requires { ⌜ (length (now executions) ≡ length (now releases)) × (length (now deadlines) ≡ length (now releases)) × (length (now criticals) ≡ length (now releases)) × (length (now proposed) ≡ length (now releases)) ⌝ }
-    ensures { λ r. ⌜ r ≡ firstRefusal (λ i. sixAt i (getD (now (releases .entry)) i 0) (getD (now (executions .entry)) i 0) (getD (now (deadlines .entry)) i 0) (getD (now (criticals .entry)) i 0) (getD (now (proposed .entry)) i 0)) (length (now (releases .entry))) ⌝ }
+    requires { ⌜ Alike (now releases) (now executions) (now deadlines) (now criticals) (now proposed) ⌝ }
+    ensures { λ r. ⌜ r ≡ firstRefusal
+        (sixIn (now (releases .entry)) (now (executions .entry)) (now (deadlines .entry)) (now (criticals .entry))
+        (now (proposed .entry)))
+        (length (now (releases .entry))) ⌝ }
 {
     let mut i = 0;
     while i < releases.len() {
@@ -68,7 +71,9 @@ pub(crate) fn six(
 // The smallest place that finishes after its proposed deadline.
 fn late(finishes: &[u32], proposed: &[u32]) -> Judgement
     requires { ⌜ length (now proposed) ≡ length (now finishes) ⌝ }
-    ensures { λ r. ⌜ r ≡ firstRefusal (λ i. sevenAt i (getD (now (finishes .entry)) i 0) (getD (now (proposed .entry)) i 0)) (length (now (finishes .entry))) ⌝ }
+    ensures { λ r. ⌜ r ≡ firstRefusal
+        (λ i. sevenAt i (getD (now (finishes .entry)) i 0) (getD (now (proposed .entry)) i 0))
+        (length (now (finishes .entry))) ⌝ }
 {
     let mut i = 0;
     while i < finishes.len() {
@@ -91,8 +96,13 @@ pub(crate) fn seven(
     proposed: &[u32],
     finishes: &mut [u32],
 ) -> Judgement
-    requires { ⌜ (judgement (subjobs (now jobs) (now subtasks) (now releases) (now executions) (now deadlines) (now criticals)) (eqb (length (now proposed)) (length (now jobs))) ≡ Passed) × (128 ≤ length (now finishes)) ⌝ }
-    ensures { λ r. ⌜ r ≡ seven (subjobs (now (jobs .entry)) (now (subtasks .entry)) (now (releases .entry)) (now (executions .entry)) (now (deadlines .entry)) (now (criticals .entry))) (now (proposed .entry)) ⌝ }
+    requires { ⌜ Ready
+        (subjobs (now jobs) (now subtasks) (now releases) (now executions) (now deadlines) (now criticals))
+        (now proposed) (now finishes) ⌝ }
+    ensures { λ r. ⌜ r ≡ seven
+        (subjobs (now (jobs .entry)) (now (subtasks .entry)) (now (releases .entry)) (now (executions .entry))
+        (now (deadlines .entry)) (now (criticals .entry)))
+        (now (proposed .entry)) ⌝ }
 {
     let n = jobs.len();
     let none = Totals { busy: 0, idle: 0 };

@@ -23,7 +23,10 @@ pub fn check(
     criticals: &[u32],
     proposed: &[u32],
 ) -> Answer
-    ensures { λ r. ⌜ Checks (subjobs (now (jobs .entry)) (now (subtasks .entry)) (now (releases .entry)) (now (executions .entry)) (now (deadlines .entry)) (now (criticals .entry))) (now (proposed .entry)) r ⌝ }
+    ensures { λ r. ⌜ Checks
+        (subjobs (now (jobs .entry)) (now (subtasks .entry)) (now (releases .entry)) (now (executions .entry))
+        (now (deadlines .entry)) (now (criticals .entry)))
+        (now (proposed .entry)) r ⌝ }
 {
     let others = proposed.len() == jobs.len();
     let judged = subjobs::judge(

@@ -10,7 +10,7 @@ use Rattle.edf.specs.declared.Answer.the-variants.{Ran}
 use Rattle.edf.specs.Answers.{added, answer, totals}
 
 -- An accepted run adds its ticks to the totals,
-pub ran-adds :
+ran-adds :
     (s : Subjobs) (ds asks : List ℕ) (n : ℕ) (t : Totals) (p : Report) → answer s ds asks n t ≡ Ran p
     → totals s ds asks n t ≡ added (run s ds asks) t
 unfolding totals

@@ -1,9 +1,13 @@
 -- The loops over the places, one turn after the other: the search for the one to serve goes up with what it found so far,
 -- the least and the greatest are gathered from the last place down, the result list is written from the first place on.
 --
---   found n b       == the place b of n, nobody if b is n
---   onward lt q xs  == the choice among xs after q was found
-use Prim.Native.Nat.{ℕ, suc, _+_, _-_, _≤_, _<_, min, max}
+--   found n b            == the place b of n, nobody if b is n
+--   onward lt q xs       == the choice among xs after q was found
+--   Looking lt U n b i   == after i of n places b is what was found of those that U picks
+--   Nearest r t n x i    == x is the next release after t of the places from i on
+--   Greatest f U n x i   == x is the greatest f of the places from i on that U picks
+--   Writing f n out i    == out holds f of the first i of n places
+use Prim.Native.Nat.{ℕ, _+_, _-_, _≤_, _<_, min, max}
 use mathlib.Core.Bool.{Bool, true, false, cond}
 use mathlib.Core.List.{List, [], _∷_, _++_, map, append-assoc, append-nil, List·Memᴰ}
 use mathlib.Core.Option.{Option, none, some}
@@ -13,14 +17,15 @@ use native.Mathlib.Numerals.{add-one}
 use native.Mathlib.Omega.{arith}
 use borrow.Author.Tests.{lt-ltb, le-ltb, ne-eqb}
 use lib.Dec.{ltb, eqb}
-use lib.ListN.{length, set, take}
+use lib.ListN.{length, set, take, length-set}
 use lib.Seq.{take-suc-set, take-all}
-use Rattle.lists.specs.Places.{from, filter, least, greatest}
+use Rattle.lists.specs.Places.{from, places, filter, least, greatest}
 use Rattle.lists.specs.Order.{ahead, choose, given}
 use Rattle.lists.proofs.Cases.{split, test, tests}
 use Rattle.lists.proofs.Count.{left-more, left-none}
 use Rattle.lists.proofs.Members.{filter-in, filter-cases, filter-nil}
 use Rattle.lists.proofs.Sums.{least-in}
+use Rattle.ticks.specs.Events.{nextRelease}
 
 from-step : (n i : ℕ) → i < n → from i (n - i) ≡ i ∷ from (i + 1) (n - (i + 1))
 unfolding from
@@ -46,50 +51,48 @@ module _ (lt : ℕ → ℕ → Bool) (b x : ℕ) (xs : List ℕ) where
   unfolding ahead
   ahead-stays e = rw e
 
-module _ (lt : ℕ → ℕ → Bool) (U : ℕ → Bool) (n : ℕ) where
-  pub look-start : onward lt (found n n) (filter U (from 0 (n - 0))) ≡ choose lt (filter U (from 0 n))
-  look-start = rw (sub-zero n, le-ltb n n (omega arith))
+-- At place i of n, with b found so far, what is left decides the whole choice.
+pub record Looking (lt : ℕ → ℕ → Bool) (U : ℕ → Bool) (n b i : ℕ) : Type 0 where
+  pub place : i ≤ n
+  pub best : b ≤ n
+  pub choice : onward lt (found n b) (filter U (from i (n - i))) ≡ choose lt (filter U (from 0 n))
 
-  pub look-done :
-      (b i : ℕ) → n ≤ i → b ≤ n → onward lt (found n b) (filter U (from i (n - i))) ≡ choose lt (filter U (from 0 n))
-      → b ≡ given (choose lt (filter U (from 0 n))) n (λ p. p)
+pub look-start : (lt : ℕ → ℕ → Bool) (U : ℕ → Bool) (n : ℕ) → Looking lt U n n 0
+look-start lt U n = record { place = omega arith; best = omega arith; choice = rw (sub-zero n, le-ltb n n (omega arith)) }
+
+module _ {lt : ℕ → ℕ → Bool} {U : ℕ → Bool} {n b i : ℕ} (K : Looking lt U n b i) where
+  pub look-done : n ≤ i → b ≡ given (choose lt (filter U (from 0 n))) n (λ p. p)
   unfolding choose ahead
-  look-done b i h l e =
+  look-done h =
       let nothing : filter U (from i (n - i)) ≡ [] = ap (filter U) (from-done n i h) ∙ filter-nil U in
-      let q = rw nothing at e in
+      let q = rw nothing at (K .choice) in
       test (ltb b n)
       (λ t. rw (← q, t))
-      (λ t. let z : b ≡ n = omega tests in rw (← q, t) z)
+      (λ t. let z : b ≡ n = omega (tests, K .best) in rw (← q, t) z)
 
-  module _ (b i : ℕ) (h : i < n) where
-    pub look-skip :
-        U i ≡ false
-        → onward lt (found n b) (filter U (from i (n - i))) ≡ onward lt (found n b) (filter U (from (i + 1) (n - (i + 1))))
+  module _ (h : i < n) where
+    onto :
+        (b′ : ℕ) → b′ ≤ n
+        → onward lt (found n b) (filter U (from i (n - i))) ≡ onward lt (found n b′) (filter U (from (i + 1) (n - (i + 1))))
+        → Looking lt U n b′ (i + 1)
+    onto b′ l e = record { place = omega arith; best = l; choice = sym e ∙ K .choice }
+
+    pub look-skip : U i ≡ false → Looking lt U n b (i + 1)
     unfolding filter
-    look-skip u = rw (from-step n i h, u)
+    look-skip u = onto b (K .best) (rw (from-step n i h, u))
 
-    pub look-first :
-        U i ≡ true
-        → b ≡ n
-        → onward lt (found n b) (filter U (from i (n - i))) ≡ onward lt (found n i) (filter U (from (i + 1) (n - (i + 1))))
+    pub look-first : U i ≡ true → b ≡ n → Looking lt U n i (i + 1)
     unfolding filter choose
-    look-first u e = rw (from-step n i h, u, le-ltb b n (omega arith), lt-ltb i n h)
+    look-first u e = onto i (omega arith) (rw (from-step n i h, u, le-ltb b n (omega arith), lt-ltb i n h))
 
-    pub look-better :
-        U i ≡ true
-        → b < n
-        → lt i b ≡ true
-        → onward lt (found n b) (filter U (from i (n - i))) ≡ onward lt (found n i) (filter U (from (i + 1) (n - (i + 1))))
+    pub look-better : U i ≡ true → b < n → lt i b ≡ true → Looking lt U n i (i + 1)
     unfolding filter
-    look-better u l e = rw (from-step n i h, u, lt-ltb b n l, lt-ltb i n h) (ap some (ahead-takes lt b i _ e))
+    look-better u l e =
+        onto i (omega arith) (rw (from-step n i h, u, lt-ltb b n l, lt-ltb i n h) (ap some (ahead-takes lt b i _ e)))
 
-    pub look-worse :
-        U i ≡ true
-        → b < n
-        → lt i b ≡ false
-        → onward lt (found n b) (filter U (from i (n - i))) ≡ onward lt (found n b) (filter U (from (i + 1) (n - (i + 1))))
+    pub look-worse : U i ≡ true → b < n → lt i b ≡ false → Looking lt U n b (i + 1)
     unfolding filter
-    look-worse u l e = rw (from-step n i h, u, lt-ltb b n l) (ap some (ahead-stays lt b i _ e))
+    look-worse u l e = onto b (K .best) (rw (from-step n i h, u, lt-ltb b n l) (ap some (ahead-stays lt b i _ e)))
 
 -- The least of some numbers above 0, where 0 stands for none.
 least-more :
@@ -101,55 +104,83 @@ least-more f x (y ∷ ys) h =
     let w = least-in f (y ∷ ys) (λ e. let z : _≡_ {A = ℕ} 0 1 = cc in omega arith) in
     rw (ne-eqb (least f (y ∷ ys)) 0 (λ e. omega (arith, h (w .0) (w .1), w .2)))
 
-pub next-none : (r : ℕ → ℕ) (n t : ℕ) → 0 ≡ least r (filter (λ k. ltb t (r k)) (from n (n - n)))
-unfolding least filter
-next-none r n t = rw (from-done n n (omega arith))
+-- From the last place down to i: x is the next release after t of those looked at, or the greatest of those that U picks.
+pub record Nearest (r : ℕ → ℕ) (t n x i : ℕ) : Type 0 where
+  pub place : i ≤ n
+  pub is : x ≡ nextRelease r (from i (n - i)) t
 
-pub greatest-none : (f : ℕ → ℕ) (U : ℕ → Bool) (n : ℕ) → 0 ≡ greatest f (filter U (from n (n - n)))
-unfolding greatest filter
-greatest-none f U n = rw (from-done n n (omega arith))
+pub record Greatest (f : ℕ → ℕ) (U : ℕ → Bool) (n x i : ℕ) : Type 0 where
+  pub place : i ≤ n
+  pub is : x ≡ greatest f (filter U (from i (n - i)))
 
-module _ (n i j : ℕ) (up : suc j ≡ i) (h : i ≤ n) where
-  from-back : from j (n - j) ≡ j ∷ from i (n - i)
-  from-back = from-step n j (omega arith) ∙ ap (λ (k : ℕ). j ∷ from k (n - k)) (add-one j ∙ up)
+pub nearest-start : (r : ℕ → ℕ) (t n : ℕ) → Nearest r t n 0 n
+nearest-start r t n = record { place = omega arith; is = unfold least filter in rw (from-done n n (omega arith)) }
 
-  pub next-more :
-      (r : ℕ → ℕ) (t : ℕ)
-      → let x = least r (filter (λ k. ltb t (r k)) (from i (n - i))) in
-      cond (ltb t (r j)) (cond (eqb x 0) (r j) (min (r j) x)) x ≡ least r (filter (λ k. ltb t (r k)) (from j (n - j)))
-  next-more r t =
+pub greatest-start : (f : ℕ → ℕ) (U : ℕ → Bool) (n : ℕ) → Greatest f U n 0 n
+greatest-start f U n = record { place = omega arith; is = unfold greatest filter in rw (from-done n n (omega arith)) }
+
+from-back : (n i : ℕ) → 0 < i → i ≤ n → from (i - 1) (n - (i - 1)) ≡ (i - 1) ∷ from i (n - i)
+from-back n i h l =
+    let z : i - 1 + 1 ≡ i = omega arith in
+    from-step n (i - 1) (omega arith) ∙ ap (λ (k : ℕ). (i - 1) ∷ from k (n - k)) z
+
+module _ {r : ℕ → ℕ} {t n x i : ℕ} (N : Nearest r t n x i) where
+  pub nearest-more :
+      0 < i → (y : ℕ) → y ≡ cond (ltb t (r (i - 1))) (cond (eqb x 0) (r (i - 1)) (min (r (i - 1)) x)) x → Nearest r t n y (i - 1)
+  nearest-more h y e =
       let U : ℕ → Bool = λ k. ltb t (r k) in
       let xs = from i (n - i) in
-      split (filter-cases U j xs)
-      (λ q.
-      rw (from-back, q .1, q .0)
-      (sym
-      (least-more r j (filter U xs)
-      (λ k m. let l = filter-in U xs m .1 in omega tests))))
-      (λ q. rw (from-back, q .1, q .0))
+      record {
+        place = omega (arith, N .place);
+        is =
+            e
+            ∙ split (filter-cases U (i - 1) xs)
+            (λ q.
+            rw (from-back n i h (N .place), q .1, q .0, N .is)
+            (sym (least-more r (i - 1) (filter U xs) (λ k m. let l = filter-in U xs m .1 in omega tests))))
+            (λ q. rw (from-back n i h (N .place), q .1, q .0) (N .is));
+      }
 
-  pub greatest-more :
-      (f : ℕ → ℕ) (U : ℕ → Bool)
-      → let x = greatest f (filter U (from i (n - i))) in
-      cond (U j) (max (f j) x) x ≡ greatest f (filter U (from j (n - j)))
+  pub nearest-done : i ≤ 0 → x ≡ nextRelease r (places n) t
+  nearest-done h = let z : i ≡ 0 = omega arith in rw (z, sub-zero) at (N .is)
+
+module _ {f : ℕ → ℕ} {U : ℕ → Bool} {n x i : ℕ} (G : Greatest f U n x i) where
+  pub greatest-more : 0 < i → (y : ℕ) → y ≡ cond (U (i - 1)) (max (f (i - 1)) x) x → Greatest f U n y (i - 1)
   unfolding greatest
-  greatest-more f U =
-      split (filter-cases U j (from i (n - i))) (λ q. rw (from-back, q .1, q .0)) (λ q. rw (from-back, q .1, q .0))
+  greatest-more h y e =
+      record {
+        place = omega (arith, G .place);
+        is =
+            e
+            ∙ split (filter-cases U (i - 1) (from i (n - i)))
+            (λ q. rw (from-back n i h (G .place), q .1, q .0, G .is))
+            (λ q. rw (from-back n i h (G .place), q .1, q .0) (G .is));
+      }
 
-module _ (f : ℕ → ℕ) (n : ℕ) where
-  pub write-start : (out : List ℕ) → take 0 out ++ map f (from 0 (n - 0)) ≡ map f (from 0 n)
-  write-start out = rw (sub-zero n)
+  pub greatest-done : i ≤ 0 → x ≡ greatest f (filter U (places n))
+  greatest-done h = let z : i ≡ 0 = omega arith in rw (z, sub-zero) at (G .is)
 
-  pub write-more :
-      (out : List ℕ) (i : ℕ) → length out ≡ n → i < n
-      → take (i + 1) (set out i (f i)) ++ map f (from (i + 1) (n - (i + 1))) ≡ take i out ++ map f (from i (n - i))
-  write-more out i e h =
-      let l : i < length out = omega arith in
-      let q : take (i + 1) (set out i (f i)) ≡ take i out ++ (f i ∷ []) = rw add-one (take-suc-set out i (f i) l) in
-      rw (q, from-step n i h, append-assoc)
+-- At place i of n, what is written and what is left to write are the whole list.
+pub record Writing (f : ℕ → ℕ) (n : ℕ) (out : List ℕ) (i : ℕ) : Type 0 where
+  pub room : length out ≡ n
+  pub place : i ≤ n
+  pub whole : take i out ++ map f (from i (n - i)) ≡ map f (from 0 n)
 
-  pub write-done :
-      (out : List ℕ) (i : ℕ) → length out ≡ n → n ≤ i → take i out ++ map f (from i (n - i)) ≡ map f (from 0 n) → out ≡ map f (from 0 n)
-  write-done out i e h q =
-      let full : take i out ≡ out = take-all i out (omega arith) in
-      sym (append-nil out) ∙ rw (full, from-done n i h) at q
+pub write-start : (f : ℕ → ℕ) (out : List ℕ) → Writing f (length out) out 0
+write-start f out = record { room = refl; place = omega arith; whole = rw (sub-zero (length out)) }
+
+module _ {f : ℕ → ℕ} {n : ℕ} {out : List ℕ} {i : ℕ} (W : Writing f n out i) where
+  pub write-more : i < n → (a : ℕ) → a ≡ f i → Writing f n (set out i a) (i + 1)
+  write-more h a e =
+      let l : i < length out = omega (arith, W .room) in
+      let q : take (i + 1) (set out i a) ≡ take i out ++ (f i ∷ []) = rw (add-one, e) (take-suc-set out i (f i) l) in
+      record {
+        room = simp length-set (W .room);
+        place = omega arith;
+        whole = rw (q, append-assoc) (rw (from-step n i h) at (W .whole));
+      }
+
+  pub write-done : n ≤ i → out ≡ map f (from 0 n)
+  write-done h =
+      let full : take i out ≡ out = take-all i out (omega (arith, W .room)) in
+      sym (append-nil out) ∙ rw (full, from-done n i h) at (W .whole)

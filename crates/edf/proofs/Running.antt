@@ -1,92 +1,74 @@
 -- The events of a run over the lent lists, in the numbers that the program holds.
 --
---   Lists            == the lists that a run reads
---   Holds x v f b t  == at moment t the program holds what the core of single ticks has: v served, f ended, b busy
---   turnsLeft x v t  == how many events are left at most
---   Served ..        == m ticks served to p, and that all of it fits
+--   Event X v f b t p u  == at moment t the program holds what the core of single ticks has: v served, f ended, b busy; p is
+--                           to be served, and u is the next release
+--   Served X v f b t p m == m ticks more are served to p, and all of it fits
 use Prim.Native.Nat.{ℕ, _+_, _-_, _≤_, _<_}
-use mathlib.Core.Bool.{Bool}
 use mathlib.Core.List.{List}
 use mathlib.Core.Option.{none, some}
-use mathlib.Core.Path.{_≡_, sym, ap, _∙_}
+use mathlib.Core.Path.{_≡_, sym, _∙_}
 use mathlib.Core.Logic.{_≢_}
 use native.Mathlib.Omega.{arith}
 use lib.ListN.{length, getD, set}
 use Rattle.lists.specs.Places.{places}
-use Rattle.lists.proofs.Members.{nodup-from}
+use Rattle.lists.proofs.Members.{places-in}
 use Rattle.ticks.specs.Core.{pick}
-use Rattle.edf.specs.Parts.{Sized, Ranged}
-use Rattle.ticks.specs.Events.{at, owedIn, soonerIn, toServe, nextRelease, stretch, final}
-use Rattle.ticks.proofs.Turns.{Reached, eventsLeft, next, reached-busy, served-for, waited, over, below, horizon-fits, serves, serves-nobody}
+use Rattle.ticks.specs.Events.{toServe, nextRelease, stretch}
+use Rattle.ticks.proofs.Service.{Counters, counters}
+use Rattle.ticks.proofs.Turns.{Reached, eventsLeft, reached-busy, served-for, waited, over, horizon-fits, to-serve}
+use Rattle.edf.specs.declared.runs.Ended.{Ended}
+use Rattle.edf.specs.Parts.{at, owedIn, Lists, setIn, loadIn, Fits, RanOut}
 
-pub record Lists : Type 0 where
-  pub jobs : List ℕ
-  pub subtasks : List ℕ
-  pub releases : List ℕ
-  pub executions : List ℕ
-  pub local : List ℕ
-  pub asks : List ℕ
+pub record Event (X : Lists) (v f : List ℕ) (b t p u : ℕ) : Type 0 where
+  pub fits : Fits X
+  pub holds : Reached (loadIn X) v f b t
+  pub serves : p ≡ toServe (loadIn X) (length (X .jobs)) t v
+  pub next : u ≡ nextRelease (at (X .releases)) (places (length (X .releases))) t
 
-abbrev pub lists : List ℕ → List ℕ → List ℕ → List ℕ → List ℕ → List ℕ → Lists
-lists js ks rs cs ds qs = record { jobs = js; subtasks = ks; releases = rs; executions = cs; local = ds; asks = qs }
+pub record Served (X : Lists) (v f : List ℕ) (b t p m : ℕ) : Type 0 where
+  pub room : getD v p 0 + m ≤ 1_000_000
+  pub busy : b + m ≤ 1_128_000_000
+  pub moment : t + m ≤ 1_128_000_000
+  pub holds : Reached (loadIn X) (set v p (getD v p 0 + m)) (set f p (t + m)) (b + m) (t + m)
+  pub fewer : eventsLeft (loadIn X) (t + m) (set v p (getD v p 0 + m)) < eventsLeft (loadIn X) t v
 
-module _ (x : Lists) where
+module _ {X : Lists} {v f : List ℕ} {b t p u : ℕ} (E : Event X v f b t p u) where
   abbrev n : ℕ
-  n = length (x .jobs)
+  n = length (X .jobs)
 
-  abbrev r : ℕ → ℕ
-  r = at (x .releases)
+  next-is : u ≡ nextRelease (at (X .releases)) (places n) t
+  next-is = E .next ∙ rw (E .fits .releases)
 
-  abbrev o : ℕ → ℕ
-  o = owedIn (x .executions) (x .asks)
+  picks : (p < n → pick (loadIn X) t v ≡ some p) × (n ≤ p → pick (loadIn X) t v ≡ none)
+  picks = to-serve (loadIn X) n t v (λ i m. places-in n i m) p (E .serves)
 
-  abbrev lt : ℕ → ℕ → Bool
-  lt = soonerIn (x .local) (x .jobs) (x .subtasks)
+  counted : Counters (loadIn X)
+  counted = counters (setIn X) (X .local) (X .asks) (E .fits .few)
 
-  abbrev pub Holds : List ℕ → List ℕ → ℕ → ℕ → Type 0
-  Holds v f b t = Reached r o lt (places n) v f b t
+  -- The one to serve is owed what it has not got,
+  pub owing : p < n → getD v p 0 ≤ owedIn (X .executions) (X .asks) p
+  owing h = omega (arith, served-for (loadIn X) v f b t (E .holds) counted p (picks .0 h) .0)
 
-  abbrev pub turnsLeft : List ℕ → ℕ → ℕ
-  turnsLeft v t = eventsLeft r o (places n) t v
+  -- and is served for a stretch;
+  pub serves-on : (m : ℕ) → p < n → m ≡ stretch (owedIn (X .executions) (X .asks) p - getD v p 0) t u → Served X v f b t p m
+  serves-on m h e =
+      let w = served-for (loadIn X) v f b t (E .holds) counted p (picks .0 h) in
+      let fits = horizon-fits (setIn X) (X .local) (X .asks) (E .fits .few) (E .fits .ranges) in
+      rw (e, next-is)
+      (record {
+        room = omega (arith, w .0, E .fits .ranges p h);
+        busy = omega (arith, w .1 .soon, reached-busy (loadIn X) _ _ _ _ (w .1));
+        moment = omega (arith, w .1 .soon);
+        holds = w .1;
+        fewer = w .2;
+      })
 
-  pub record Served (v f : List ℕ) (b t p m : ℕ) : Type 0 where
-    pub room : getD v p 0 + m ≤ 1_000_000
-    pub busy : b + m ≤ 1_128_000_000
-    pub moment : t + m ≤ 1_128_000_000
-    pub holds : Holds (set v p (getD v p 0 + m)) (set f p (t + m)) (b + m) (t + m)
-    pub fewer : turnsLeft (set v p (getD v p 0 + m)) (t + m) < turnsLeft v t
+  -- if there is none, the core waits for the next release,
+  pub waits-on : n ≤ p → u ≢ 0 → Reached (loadIn X) v f b u × (eventsLeft (loadIn X) u v < eventsLeft (loadIn X) t v)
+  waits-on h z = rw next-is (waited (loadIn X) v f b t (E .holds) (picks .1 h) (λ e. z (next-is ∙ e)))
 
-  module _ (S : Sized (x .jobs) (x .subtasks) (x .releases) (x .executions) (x .local) (x .asks)) (v f : List ℕ) (b t : ℕ) (R : Holds v f b t)
-      (p u : ℕ) (p-is : p ≡ toServe r o lt n t v) (u-is : u ≡ nextRelease r (length (x .releases)) t) where
-    next-is : u ≡ next r (places n) t
-    next-is = u-is ∙ ap (λ (k : ℕ). nextRelease r k t) (S .releases)
-
-    picks : p < n → pick r o lt (places n) t v ≡ some p
-    picks h = serves r o lt n t v (omega (arith, p-is)) ∙ ap some (sym p-is)
-
-    nobody : n ≤ p → pick r o lt (places n) t v ≡ none
-    nobody h = serves-nobody r o lt n t v (omega (arith, p-is))
-
-    -- The one to serve is owed what it has not got.
-    pub owing : p < n → getD v p 0 ≤ o p
-    owing h = omega (arith, served-for r o lt (places n) v f b t R (below n (S .few)) (nodup-from 0 n) p (picks h) .0)
-
-    pub serves-on : Ranged (x .releases) (x .executions) n → (m : ℕ) → p < n → m ≡ stretch (o p - getD v p 0) t u → Served v f b t p m
-    serves-on G m h e =
-        let w = served-for r o lt (places n) v f b t R (below n (S .few)) (nodup-from 0 n) p (picks h) in
-        let q : m ≡ stretch (o p - getD v p 0) t (next r (places n) t) = e ∙ ap (stretch (o p - getD v p 0) t) next-is in
-        let fits = horizon-fits r o lt n (S .few) (G .releases) (λ i l. omega (arith, G .executions i l)) in
-        rw q
-        (record {
-          room = omega (arith, w .0, G .executions p h);
-          busy = omega (arith, w .1 .soon, reached-busy _ _ _ _ _ _ _ _ (w .1));
-          moment = omega (arith, w .1 .soon);
-          holds = w .1;
-          fewer = w .2;
-        })
-
-    pub waits-on : n ≤ p → u ≢ 0 → Holds v f b u × (turnsLeft v u < turnsLeft v t)
-    waits-on h z = rw next-is (waited r o lt (places n) v f b t R (nobody h) (λ e. z (next-is ∙ e)))
-
-    pub ends-here : n ≤ p → u ≡ 0 → (f ≡ final r o lt n .finish) × (b ≡ final r o lt n .busy)
-    ends-here h z = over r o lt (places n) v f b t R (nobody h) (sym next-is ∙ z)
+  -- and if there is none of these either, all is served.
+  pub ends-here : n ≤ p → u ≡ 0 → (e : Ended) → e .finish ≡ f → e .busy ≡ b → RanOut X e
+  ends-here h z e q w =
+      let all = over (loadIn X) v f b t (E .holds) (picks .1 h) (sym next-is ∙ z) in
+      record { finish = q ∙ all .0; busy = w ∙ all .1 }

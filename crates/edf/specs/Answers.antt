@@ -3,7 +3,7 @@
 --   added r t                == the totals t with the ticks of the run r
 --   above t                  == a total stands above what a record may hold
 --   answer s ds asks n t     == the answer, for a list of n finishes and a record of totals t
---   values a                 == document 01's number and values of an answer: 0 and the end, or the reason's
+--   values a                 == RULES' number and values of an answer: 0 and the end, or the reason's
 --   totals s ds asks n t     == what the record of totals holds afterwards
 --   finishes s ds asks fs t  == what the list of finishes holds afterwards, if it held fs before
 use Prim.Native.Nat.{ℕ, _+_}
@@ -61,10 +61,12 @@ values (Ran r) = pos 0 ∷ pos (r .end) ∷ []
 values (Refused r) = reasons.values r
 
 -- What `simulate` is held to: what it gives, and what the list of finishes holds afterwards.
-abbrev pub Simulates : Subjobs → (ds asks fs : List ℕ) → Totals → Simulated → List ℕ → Type 0
-Simulates s ds asks fs t r fs′ = (r ≡ simulated s ds asks (length fs) t) × (fs′ ≡ finishes s ds asks fs t)
+pub record Simulates (s : Subjobs) (ds asks fs : List ℕ) (t : Totals) (r : Simulated) (new : List ℕ) : Type 0 where
+  pub gives : r ≡ simulated s ds asks (length fs) t
+  pub writes : new ≡ finishes s ds asks fs t
 
 -- What `run` is held to: its answer, and what totals and finishes hold afterwards.
-abbrev pub Runs : Subjobs → (ds asks fs : List ℕ) → Totals → Answer → Totals → List ℕ → Type 0
-Runs s ds asks fs t r t′ fs′ =
-    (r ≡ answer s ds asks (length fs) t) × (t′ ≡ totals s ds asks (length fs) t) × (fs′ ≡ finishes s ds asks fs t)
+pub record Runs (s : Subjobs) (ds asks fs : List ℕ) (t : Totals) (r : Answer) (sum : Totals) (new : List ℕ) : Type 0 where
+  pub gives : r ≡ answer s ds asks (length fs) t
+  pub adds : sum ≡ totals s ds asks (length fs) t
+  pub writes : new ≡ finishes s ds asks fs t

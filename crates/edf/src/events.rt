@@ -1,11 +1,13 @@
 // The parts of an event: who is to be served, when somebody is released next, and how long that holds.
 ghost use Prim.Native.Nat.{_<_, min};
 ghost use mathlib.Core.Path.{_≡_};
-ghost use mathlib.Core.Bool.{cond, _&&_};
-ghost use lib.Dec.{leb, ltb, eqb};
+ghost use mathlib.Core.Bool.{cond};
+ghost use lib.Dec.{ltb, eqb};
 ghost use lib.ListN.{length};
-ghost use Rattle.edf.specs.Parts.{Sized};
-ghost use Rattle.ticks.specs.Events.{at, owedIn, soonerIn, toServe, nextRelease, stretch};
+ghost use Rattle.lists.specs.Places.{places};
+ghost use Rattle.ticks.specs.Runs.{sooner};
+ghost use Rattle.ticks.specs.Events.{toServe, nextRelease, stretch};
+ghost use Rattle.edf.specs.Parts.{at, activeIn, lists, loadIn, Fits};
 
 // A sub-job is owed the smaller of its ask and its execution.
 pub(crate) fn owed(execution: u32, ask: u32) -> u32
@@ -23,8 +25,10 @@ fn active(
     t: u32,
     place: usize,
 ) -> bool
-    requires { ⌜ (place < length (now releases)) × (place < length (now executions)) × (place < length (now asks)) × (place < 128) ⌝ }
-    ensures { λ r. ⌜ r ≡ (leb (at (now (releases .entry)) place) t && ltb (at (now (served .entry)) place) (owedIn (now (executions .entry)) (now (asks .entry)) place)) ⌝ }
+    requires { ⌜ (place < length (now releases)) × (place < length (now executions)) × (place < length (now asks))
+        × (place < 128) ⌝ }
+    ensures { λ r. ⌜ r ≡ activeIn (now (releases .entry)) (now (executions .entry)) (now (asks .entry))
+        (now (served .entry)) t place ⌝ }
 {
     let owed = owed(executions[place], asks[place]);
     (releases[place] <= t) & (served[place] < owed)
@@ -32,8 +36,9 @@ fn active(
 
 // Whether the place i is served before the place j: smaller deadline, then smaller job, then smaller subtask.
 fn sooner(deadlines: &[u32], jobs: &[u32], subtasks: &[u32], i: usize, j: usize) -> bool
-    requires { ⌜ (length (now deadlines) ≡ length (now jobs)) × (length (now subtasks) ≡ length (now jobs)) × (i < length (now jobs)) × (j < length (now jobs)) ⌝ }
-    ensures { λ r. ⌜ r ≡ soonerIn (now (deadlines .entry)) (now (jobs .entry)) (now (subtasks .entry)) i j ⌝ }
+    requires { ⌜ (length (now deadlines) ≡ length (now jobs)) × (length (now subtasks) ≡ length (now jobs))
+        × (i < length (now jobs)) × (j < length (now jobs)) ⌝ }
+    ensures { λ r. ⌜ r ≡ sooner (at (now (deadlines .entry))) (at (now (jobs .entry))) (at (now (subtasks .entry))) i j ⌝ }
 {
     (deadlines[i] < deadlines[j])
         | (!(deadlines[j] < deadlines[i])
@@ -41,7 +46,7 @@ fn sooner(deadlines: &[u32], jobs: &[u32], subtasks: &[u32], i: usize, j: usize)
 }
 
 // The place to serve in tick t, of those active the one that comes first; as many as there are places if nobody is active.
-// An order of document 02 puts a heap here: callers know it by `toServe` alone.
+// A heap may stand here one day: callers know it by `toServe` alone.
 pub(crate) fn to_serve(
     jobs: &[u32],
     subtasks: &[u32],
@@ -52,8 +57,11 @@ pub(crate) fn to_serve(
     served: &[u32; 128],
     t: u32,
 ) -> usize
-    requires { ⌜ Sized (now jobs) (now subtasks) (now releases) (now executions) (now local) (now asks) ⌝ }
-    ensures { λ r. ⌜ r ≡ toServe (at (now (releases .entry))) (owedIn (now (executions .entry)) (now (asks .entry))) (soonerIn (now (local .entry)) (now (jobs .entry)) (now (subtasks .entry))) (length (now (jobs .entry))) t (now (served .entry)) ⌝ }
+    requires { ⌜ Fits (lists (now jobs) (now subtasks) (now releases) (now executions) (now local) (now asks)) ⌝ }
+    ensures { λ r. ⌜ r ≡ toServe
+        (loadIn (lists (now (jobs .entry)) (now (subtasks .entry)) (now (releases .entry)) (now (executions .entry))
+        (now (local .entry)) (now (asks .entry))))
+        (length (now (jobs .entry))) t (now (served .entry)) ⌝ }
 {
     let n = jobs.len();
     let mut best = n;
@@ -89,7 +97,7 @@ fn nearer(next: u32, release: u32, t: u32) -> u32
 
 // The next release after moment t, 0 if there is none.
 pub(crate) fn next_release(releases: &[u32], t: u32) -> u32
-    ensures { λ r. ⌜ r ≡ nextRelease (at (now (releases .entry))) (length (now (releases .entry))) t ⌝ }
+    ensures { λ r. ⌜ r ≡ nextRelease (at (now (releases .entry))) (places (length (now (releases .entry)))) t ⌝ }
 {
     let mut next = 0;
     let mut i = releases.len();

@@ -1,7 +1,7 @@
 // The simulated core: one preemptive core under earliest deadline first, its finishes and its totals.
 //
-// The answer is that of single ticks (specs/Core.antt, specs/Runs.antt, specs/Answers.antt); the program jumps from event
-// to event (specs/Events.antt).
+// The answer (specs/Answers.antt) is that of single ticks (Core and Runs of the crate `ticks`); the program jumps from event
+// to event (Events there). What its parts are held to is said in specs/Parts.antt.
 ghost use Rattle.subjobs.specs.Sets.{subjobs};
 ghost use Rattle.edf.specs.Answers.{Simulates, Runs};
 
@@ -48,7 +48,10 @@ pub fn simulate(
     finishes: &mut [u32],
     totals: Totals,
 ) -> Simulated
-    ensures { λ r. ⌜ Simulates (subjobs (now (jobs .entry)) (now (subtasks .entry)) (now (releases .entry)) (now (executions .entry)) (now (deadlines .entry)) (now (criticals .entry))) (now (local .entry)) (now (asks .entry)) (now (finishes .entry)) totals r (now (finishes .exit)) ⌝ }
+    ensures { λ r. ⌜ Simulates
+        (subjobs (now (jobs .entry)) (now (subtasks .entry)) (now (releases .entry)) (now (executions .entry))
+        (now (deadlines .entry)) (now (criticals .entry)))
+        (now (local .entry)) (now (asks .entry)) (now (finishes .entry)) totals r (now (finishes .exit)) ⌝ }
 {
     let n = jobs.len();
     let others = (local.len() == n) & (asks.len() == n) & (finishes.len() == n);
@@ -86,7 +89,11 @@ pub fn run(
     finishes: &mut [u32],
     totals: &mut Totals,
 ) -> Answer
-    ensures { λ r. ⌜ Runs (subjobs (now (jobs .entry)) (now (subtasks .entry)) (now (releases .entry)) (now (executions .entry)) (now (deadlines .entry)) (now (criticals .entry))) (now (local .entry)) (now (asks .entry)) (now (finishes .entry)) (now (totals .entry)) r (now (totals .exit)) (now (finishes .exit)) ⌝ }
+    ensures { λ r. ⌜ Runs
+        (subjobs (now (jobs .entry)) (now (subtasks .entry)) (now (releases .entry)) (now (executions .entry))
+        (now (deadlines .entry)) (now (criticals .entry)))
+        (now (local .entry)) (now (asks .entry)) (now (finishes .entry)) (now (totals .entry))
+        r (now (totals .exit)) (now (finishes .exit)) ⌝ }
 {
     let simulated = simulate(
         jobs,

@@ -6,8 +6,7 @@ ghost use mathlib.Core.Path.{_≡_};
 ghost use lib.Dec.{ltb, eqb};
 ghost use lib.ListN.{length};
 ghost use Rattle.lists.specs.Places.{places};
-ghost use Rattle.edf.specs.Parts.{settled, written, Sized, Ranged, Settling};
-ghost use Rattle.ticks.specs.Events.{at, owedIn, soonerIn, final, finishOf, endOf, readOff};
+ghost use Rattle.edf.specs.Parts.{finishIn, endIn, lists, Fits, RanOut, Settling, Settles};
 use crate::Answer;
 use crate::Report;
 use crate::Simulated;
@@ -34,8 +33,11 @@ pub(crate) fn run_out(
     local: &[u32],
     asks: &[u32],
 ) -> Ended
-    requires { ⌜ Sized (now jobs) (now subtasks) (now releases) (now executions) (now local) (now asks) × Ranged (now releases) (now executions) (length (now jobs)) ⌝ }
-    ensures { λ r. ⌜ (r .finish ≡ final (at (now (releases .entry))) (owedIn (now (executions .entry)) (now (asks .entry))) (soonerIn (now (local .entry)) (now (jobs .entry)) (now (subtasks .entry))) (length (now (jobs .entry))) .finish) × (r .busy ≡ final (at (now (releases .entry))) (owedIn (now (executions .entry)) (now (asks .entry))) (soonerIn (now (local .entry)) (now (jobs .entry)) (now (subtasks .entry))) (length (now (jobs .entry))) .busy) ⌝ }
+    requires { ⌜ Fits (lists (now jobs) (now subtasks) (now releases) (now executions) (now local) (now asks)) ⌝ }
+    ensures { λ r. ⌜ RanOut
+        (lists (now (jobs .entry)) (now (subtasks .entry)) (now (releases .entry)) (now (executions .entry))
+        (now (local .entry)) (now (asks .entry)))
+        r ⌝ }
 {
     let n = jobs.len();
     let mut served = [0u32; 128];
@@ -84,7 +86,7 @@ fn later(end: u32, finish: u32, owed: u32) -> u32
 // The end of the run: the greatest finish among those owed something, 0 if there are none.
 pub(crate) fn end_of(executions: &[u32], asks: &[u32], finish: &[u32; 128]) -> u32
     requires { ⌜ (length (now asks) ≡ length (now executions)) × (length (now executions) ≤ 128) ⌝ }
-    ensures { λ r. ⌜ r ≡ endOf (owedIn (now (executions .entry)) (now (asks .entry))) (length (now (executions .entry))) (now (finish .entry)) ⌝ }
+    ensures { λ r. ⌜ r ≡ endIn (now (executions .entry)) (now (asks .entry)) (now (finish .entry)) ⌝ }
 {
     let mut end = 0;
     let mut i = executions.len();
@@ -111,8 +113,11 @@ fn write_finishes(
     finish: &[u32; 128],
     finishes: &mut [u32],
 )
-    requires { ⌜ (length (now releases) ≡ length (now finishes)) × (length (now executions) ≡ length (now finishes)) × (length (now asks) ≡ length (now finishes)) × (length (now finishes) ≤ 128) ⌝ }
-    ensures { λ r. ⌜ now (finishes .exit) ≡ map (finishOf (at (now (releases .entry))) (owedIn (now (executions .entry)) (now (asks .entry))) (now (finish .entry))) (places (length (now (finishes .entry)))) ⌝ }
+    requires { ⌜ (length (now releases) ≡ length (now finishes)) × (length (now executions) ≡ length (now finishes))
+        × (length (now asks) ≡ length (now finishes)) × (length (now finishes) ≤ 128) ⌝ }
+    ensures { λ r. ⌜ now (finishes .exit)
+        ≡ map (finishIn (now (releases .entry)) (now (executions .entry)) (now (asks .entry)) (now (finish .entry)))
+        (places (length (now (finishes .entry)))) ⌝ }
 {
     let mut i = 0;
     while i < finishes.len() {
@@ -141,8 +146,9 @@ pub(crate) fn settle(
     finishes: &mut [u32],
     totals: Totals,
 ) -> Simulated
-    requires { ⌜ Settling (now releases) (now executions) (now asks) (core .finish) (core .busy) (length (now finishes)) ⌝ }
-    ensures { λ r. ⌜ (r ≡ settled (readOff (at (now (releases .entry))) (owedIn (now (executions .entry)) (now (asks .entry))) (length (now (finishes .entry))) (core .finish) (core .busy)) totals) × (now (finishes .exit) ≡ written (readOff (at (now (releases .entry))) (owedIn (now (executions .entry)) (now (asks .entry))) (length (now (finishes .entry))) (core .finish) (core .busy)) totals (now (finishes .entry))) ⌝ }
+    requires { ⌜ Settling (now releases) (now executions) (now asks) core (length (now finishes)) ⌝ }
+    ensures { λ r. ⌜ Settles (now (releases .entry)) (now (executions .entry)) (now (asks .entry)) core
+        (now (finishes .entry)) totals r (now (finishes .exit)) ⌝ }
 {
     let finish = core.finish;
     let busy = core.busy;

@@ -3,5 +3,7 @@ pub mod Count
 pub mod Members
 pub mod Sums
 pub mod Choice
+pub mod Renamed
 pub mod Rearranged
 pub mod Mapped
+pub mod Searched

@@ -1,6 +1,6 @@
 -- Who is in a group: membership in a filter, in the places of a set, and what holds of every member.
 use Prim.Native.Nat.{ℕ, zero, suc, _+_, _≤_, _<_}
-use mathlib.Core.Bool.{Bool, true, false, not}
+use mathlib.Core.Bool.{Bool, true, false, not, _&&_, and-false}
 use mathlib.Core.List.{List, [], _∷_, _++_, List·Memᴰ, List·Memᴰ·head, List·Memᴰ·tail, List·Memᴰ·cases-cons, List·Memᴰ·not-nil}
 use mathlib.Core.Logic.{_≢_, _⊎_, inl, inr}
 use mathlib.Core.Path.{_≡_, refl, _∙_, ap}
@@ -25,6 +25,14 @@ filled (x ∷ xs) h = (x, List·Memᴰ·head refl)
 
 pub in-filled : {i : ℕ} {xs : List ℕ} → List·Memᴰ i xs → xs ≢ []
 in-filled {i} m e = List·Memᴰ·not-nil (rw e at m)
+
+-- A place is in a list or it is not.
+pub or-in : (i : ℕ) (xs : List ℕ) → List·Memᴰ i xs ⊎ (List·Memᴰ i xs → ⊥)
+or-in i [] = inr (λ m. in-nil m)
+or-in i (x ∷ xs) =
+    test (eqb i x)
+    (λ y. inl (List·Memᴰ·head (eqb-true i x y)))
+    (λ n. split (or-in i xs) (λ m. inl (List·Memᴰ·tail m)) (λ k. inr (λ m. in-cons m (eqb-false i x n) k)))
 
 -- What a filter does at the head of a list.
 pub filter-cases :
@@ -143,6 +151,27 @@ filter-all U (x ∷ xs) h =
     split (filter-cases U x xs)
     (λ q. q .1 ∙ ap (λ (ys : List ℕ). x ∷ ys) (filter-all U xs (λ i m. h i (List·Memᴰ·tail m))))
     (λ q. clash (h x (List·Memᴰ·head refl)) (q .0))
+
+-- Tests that agree on a group pick the same subset.
+pub filter-cong : (U X : ℕ → Bool) (xs : List ℕ) → ((i : ℕ) → List·Memᴰ i xs → U i ≡ X i) → filter U xs ≡ filter X xs
+unfolding filter
+filter-cong U X [] h = refl
+filter-cong U X (x ∷ xs) h =
+    rw (h x (List·Memᴰ·head refl), filter-cong U X xs (λ i m. h i (List·Memᴰ·tail m)))
+
+-- A subset of a subset.
+pub filter-both : (U W : ℕ → Bool) (xs : List ℕ) → filter U (filter W xs) ≡ filter (λ i. W i && U i) xs
+unfolding filter
+filter-both U W [] = refl
+filter-both U W (x ∷ xs) = test (W x) (λ y. rw (y, filter-both U W xs)) (λ n. rw (n, filter-both U W xs))
+
+-- A subset of those that W picks is a subset of the group.
+pub filter-within :
+    (U W : ℕ → Bool) (xs : List ℕ) → ((i : ℕ) → List·Memᴰ i (filter U xs) → W i ≡ true) → filter U (filter W xs) ≡ filter U xs
+filter-within U W xs h =
+    filter-both U W xs
+    ∙ filter-cong (λ i. W i && U i) U xs
+    (λ i m. test (U i) (λ y. rw (y, h i (in-filter U xs m y))) (λ n. rw (n, and-false (W i))))
 
 -- A group is empty or not.
 pub or-filled : (xs : List ℕ) → (xs ≡ []) ⊎ (xs ≢ [])

@@ -1,14 +1,15 @@
 -- Sums, least and greatest over a group: of a subset, of two functions that agree, with one member taken out.
 use Prim.Native.Nat.{ℕ, zero, suc, _+_, _≤_}
-use mathlib.Core.Bool.{Bool, true, false, not}
+use mathlib.Core.Bool.{Bool, true, false, cond, not}
 use mathlib.Core.List.{List, [], _∷_, List·Memᴰ, List·Memᴰ·head, List·Memᴰ·tail, Memᴰ·cast}
 use mathlib.Core.Logic.{_≢_, _⊎_}
 use mathlib.Core.Path.{_≡_, refl, sym, ap, _∙_}
 use native.Mathlib.Omega.{arith}
 use lib.Dec.{eqb, ltb}
+use lib.ListN.{length}
 use Rattle.lists.specs.Places.{filter, without, weight, least, greatest, Every, Nodup, from}
 use Rattle.lists.proofs.Cases.{split, test, clash, tests}
-use Rattle.lists.proofs.Members.{in-cons, in-nil, filter-cases, filter-nil, every-in}
+use Rattle.lists.proofs.Members.{in-cons, in-nil, cons-nil, filter-cases, filter-nil, every-in}
 
 pub weight-nil : (f : ℕ → ℕ) → weight f [] ≡ 0
 unfolding weight
@@ -48,6 +49,31 @@ weight-parts f U [] = refl
 weight-parts f U (x ∷ xs) =
     let ih = weight-parts f U xs in
     test (U x) (λ e. rw e (omega arith)) (λ e. rw e (omega arith))
+
+-- The sum over a subset is a sum over the group.
+pub weight-picked : (f : ℕ → ℕ) (U : ℕ → Bool) (xs : List ℕ) → weight f (filter U xs) ≡ weight (λ i. cond (U i) (f i) 0) xs
+unfolding filter weight
+weight-picked f U [] = refl
+weight-picked f U (x ∷ xs) =
+    let ih = weight-picked f U xs in
+    test (U x) (λ e. rw e (omega arith)) (λ e. rw e (omega arith))
+
+-- A subset that weighs what its group weighs is the group.
+pub weight-whole :
+    (f : ℕ → ℕ) (U : ℕ → Bool) (xs : List ℕ)
+    → ((i : ℕ) → List·Memᴰ i xs → 1 ≤ f i)
+    → weight f xs ≤ weight f (filter U xs)
+    → filter U xs ≡ xs
+weight-whole f U [] ones h = filter-nil U
+weight-whole f U (x ∷ xs) ones h =
+    let o = ones x (List·Memᴰ·head refl) in
+    let w = weight-cons f x xs in
+    split (filter-cases U x xs)
+    (λ q.
+    q .1
+    ∙ ap (λ (ys : List ℕ). x ∷ ys)
+    (weight-whole f U xs (λ i m. ones i (List·Memᴰ·tail m)) (omega (arith, ap (weight f) (q .1), weight-cons f x (filter U xs)))))
+    (λ q. absurd (omega (arith, ap (weight f) (q .1), weight-filter f U xs)))
 
 -- A member weighs no more than its group.
 pub weight-in : (f : ℕ → ℕ) (xs : List ℕ) {i : ℕ} → List·Memᴰ i xs → f i ≤ weight f xs
@@ -120,6 +146,17 @@ greatest-le f a [] g = omega arith
 greatest-le f a (x ∷ xs) g =
     omega (arith, greatest-le f a xs (λ i m. g i (List·Memᴰ·tail m)), g x (List·Memᴰ·head refl))
 
+pub greatest-in : (f : ℕ → ℕ) (xs : List ℕ) → xs ≢ [] → (i : ℕ) × List·Memᴰ i xs × (greatest f xs ≡ f i)
+unfolding greatest
+greatest-in f [] h = absurd (h refl)
+greatest-in f (x ∷ []) h = (x, List·Memᴰ·head refl, omega arith)
+greatest-in f (x ∷ y ∷ ys) h =
+    let w = greatest-in f (y ∷ ys) (λ e. cons-nil e) in
+    let e = w .2 in
+    test (ltb (greatest f (y ∷ ys)) (f x))
+    (λ t. (x, List·Memᴰ·head refl, omega tests))
+    (λ t. (w .0, List·Memᴰ·tail (w .1), omega tests))
+
 -- One term grows by one and the others stay.
 pub weight-one-more :
     (f g : ℕ → ℕ) (b : ℕ) (xs : List ℕ)
@@ -156,6 +193,12 @@ pub count-from : (a n : ℕ) → weight (λ i. 1) (from a n) ≡ n
 unfolding from weight
 count-from a zero = refl
 count-from a (suc n) = omega (arith, count-from (suc a) n)
+
+-- Ones sum up to the length.
+pub weight-length : (xs : List ℕ) → weight (λ i. 1) xs ≡ length xs
+unfolding weight
+weight-length [] = refl
+weight-length (x ∷ xs) = omega (arith, weight-length xs)
 
 -- A sum of nothing.
 pub weight-zero : (f : ℕ → ℕ) (xs : List ℕ) → ((i : ℕ) → List·Memᴰ i xs → f i ≡ 0) → weight f xs ≡ 0

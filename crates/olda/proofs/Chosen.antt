@@ -1,68 +1,149 @@
--- The choice of one of a list, one place after the other.
+-- The choice of one of a list, one after the other: the base sub-job, and the place of the least slack.
 use Prim.Native.Nat.{ℕ, _+_, _<_, _≤_}
 use mathlib.Core.Bool.{Bool, true, false, cond}
 use mathlib.Core.List.{List}
+use mathlib.Core.Logic.{_⊎_}
 use mathlib.Core.Option.{some}
-use mathlib.Core.Path.{_≡_, sym}
-use native.Mathlib.Nat.{add-zero}
+use mathlib.Core.Path.{_≡_, refl, sym, ap, _∙_}
 use native.Mathlib.Numerals.{add-one}
 use native.Mathlib.Omega.{arith}
 use borrow.Author.Tests.{lt-ltb, le-ltb}
-use lib.Dec.{ltb}
-use lib.ListN.{length, getD, drop, drop-of-length-le}
+use lib.ListN.{length, drop, drop-of-length-le}
 use lib.Seq.{drop-cons}
 use Rattle.lists.specs.Places.{places}
-use Rattle.lists.specs.Order.{ahead, choose}
-use Rattle.lists.proofs.Members.{from-length}
+use Rattle.lists.specs.Order.{reversed, ahead, choose}
+use Rattle.lists.proofs.Cases.{split}
+use Rattle.lists.proofs.Members.{every-at, from-length}
 use Rattle.lists.proofs.Mapped.{places-at}
-use Rattle.rules.specs.Rules.{lower}
+use Rattle.subjobs.specs.Terms.{bySlack}
+use Rattle.olda.specs.Parts.{at, limits, lowerBy, Choosing, Chosen, Reporting, Tightest}
+
+-- Of the first i of xs p is chosen: against those left it is the choice of all.
+pub record Ahead (lt : ℕ → ℕ → Bool) (xs : List ℕ) (p i : ℕ) : Type 0 where
+  pub within : i ≤ length xs
+  pub same : choose lt xs ≡ some (ahead lt p (drop i xs))
 
 module _ (lt : ℕ → ℕ → Bool) (xs : List ℕ) where
-  pub choose-first : 0 < length xs → choose lt xs ≡ some (ahead lt (getD xs 0 0) (drop 1 xs))
+  ahead-first : 0 < length xs → Ahead lt xs (at xs 0) 1
   unfolding choose
-  choose-first h = rw (drop-cons xs 0 0 h)
+  ahead-first h = record { within = omega arith; same = rw (drop-cons xs 0 0 h) }
 
-  -- p against those from i on: the one at i takes its place, or does not.
-  module _ (p i q : ℕ) (h : i < length xs) (e : ahead lt p (drop i xs) ≡ q) where
-    step : ahead lt (cond (lt (getD xs i 0) p) (getD xs i 0) p) (drop (i + 1) xs) ≡ q
+  module _ {p i : ℕ} (a : Ahead lt xs p i) where
+    module _ (h : i < length xs) where
+      step : choose lt xs ≡ some (ahead lt (cond (lt (at xs i) p) (at xs i) p) (drop (i + 1) xs))
+      unfolding ahead
+      step = rw add-one (rw (drop-cons xs i 0 h) at (a .same))
+
+      ahead-new : lt (at xs i) p ≡ true → Ahead lt xs (at xs i) (i + 1)
+      ahead-new t = record { within = omega arith; same = rw t at step }
+
+      ahead-old : lt (at xs i) p ≡ false → Ahead lt xs p (i + 1)
+      ahead-old t = record { within = omega arith; same = rw t at step }
+
+    ahead-all : length xs ≤ i → choose lt xs ≡ some p
     unfolding ahead
-    step = rw (add-one) (rw (drop-cons xs i 0 h) at e)
+    ahead-all h = rw (drop-of-length-le xs h) at (a .same)
 
-    pub ahead-yes : lt (getD xs i 0) p ≡ true → ahead lt (getD xs i 0) (drop (i + 1) xs) ≡ q
-    ahead-yes t = rw t at step
+-- The order of raised bounds: the greater bound, or an equal one and the later place.
+module _ (us : List ℕ) (p q : ℕ) where
+  lower-yes : (at us p < at us q) ⊎ ((at us p ≡ at us q) × (p < q)) → lowerBy us p q ≡ true
+  lower-yes h =
+      split h
+      (λ l. rw (lt-ltb (at us p) (at us q) l))
+      (λ l. rw (le-ltb (at us p) (at us q) (omega arith), le-ltb (at us q) (at us p) (omega arith), lt-ltb p q (l .1)))
 
-    pub ahead-no : lt (getD xs i 0) p ≡ false → ahead lt p (drop (i + 1) xs) ≡ q
-    ahead-no t = rw t at step
+  lower-no : (at us q < at us p) ⊎ ((at us p ≡ at us q) × (q ≤ p)) → lowerBy us p q ≡ false
+  lower-no h =
+      split h
+      (λ l. rw (le-ltb (at us p) (at us q) (omega arith), lt-ltb (at us q) (at us p) l))
+      (λ l. rw (le-ltb (at us p) (at us q) (omega arith), le-ltb (at us q) (at us p) (omega arith), le-ltb p q (l .1)))
 
-  pub ahead-end : (p i q : ℕ) → length xs ≤ i → ahead lt p (drop i xs) ≡ q → q ≡ p
-  unfolding ahead
-  ahead-end p i q h e = sym (rw (drop-of-length-le xs h) at e)
+-- The base sub-job of the first i of xs stands at k, and its bound is `top`.
+pub record Topped (xs us : List ℕ) (k top i : ℕ) : Type 0 where
+  pub asked : Choosing xs us
+  pub inside : k < length xs
+  pub bound : top ≡ at us (at xs k)
+  pub best : Ahead (reversed (lowerBy us)) xs (at xs k) i
 
--- The tie rule, where nothing is taken off the bounds.
-module _ (u : ℕ → ℕ) (p q : ℕ) where
-  pub lower-bound : u p < u q → lower u (λ i. 0) p q ≡ true
-  lower-bound h = simp (add-zero, lt-ltb (u p) (u q) h)
+module _ {xs us : List ℕ} (a : Choosing xs us) {p : ℕ} (e : p ≡ at xs 0) where
+  pub topped-first : p < length us
+  topped-first = rw e (every-at (λ q. q < length us) xs 0 (a .some) (a .inside))
 
-  pub lower-tie : u p ≡ u q → lower u (λ i. 0) p q ≡ ltb p q
-  lower-tie e = simp (add-zero, le-ltb (u p) (u q) (omega arith), le-ltb (u q) (u p) (omega arith))
+  pub topped-one : Topped xs us 0 (at us p) 1
+  topped-one =
+      record { asked = a; inside = a .some; bound = ap (at us) e; best = ahead-first (reversed (lowerBy us)) xs (a .some) }
 
-  pub lower-not : u q < u p → lower u (λ i. 0) p q ≡ false
-  lower-not h = simp (add-zero, le-ltb (u p) (u q) (omega arith), lt-ltb (u q) (u p) h)
+module _ {xs us : List ℕ} {k top i : ℕ} (t : Topped xs us k top i) where
+  module _ {p : ℕ} (h : i < length xs) (e : p ≡ at xs i) where
+    pub topped-known : p < length us
+    topped-known = rw e (every-at (λ q. q < length us) xs i h (t .asked .inside))
 
--- The same over all places of a set.
-module _ (lt : ℕ → ℕ → Bool) (n : ℕ) where
-  pub choose-place : 0 < n → choose lt (places n) ≡ some (ahead lt 0 (drop 1 (places n)))
-  choose-place h = rw (places-at n 0 h) at (choose-first lt (places n) (omega (arith, from-length 0 n)))
+    pub topped-new : (top < at us p) ⊎ ((top ≡ at us p) × (at xs k < at xs i)) → Topped xs us i (at us p) (i + 1)
+    topped-new w =
+        record {
+          asked = t .asked;
+          inside = h;
+          bound = ap (at us) e;
+          best = ahead-new (reversed (lowerBy us)) xs (t .best) h (lower-yes us (at xs k) (at xs i) (rw (t .bound, e) at w));
+        }
 
-  module _ (p i q : ℕ) (h : i < n) (e : ahead lt p (drop i (places n)) ≡ q) where
-    here : i < length (places n)
-    here = omega (arith, from-length 0 n)
+    pub topped-old : (at us p < top) ⊎ ((top ≡ at us p) × (at xs i ≤ at xs k)) → Topped xs us k top (i + 1)
+    topped-old w =
+        record {
+          asked = t .asked;
+          inside = t .inside;
+          bound = t .bound;
+          best = ahead-old (reversed (lowerBy us)) xs (t .best) h (lower-no us (at xs k) (at xs i) (rw (t .bound, e) at w));
+        }
 
-    pub place-yes : lt i p ≡ true → ahead lt i (drop (i + 1) (places n)) ≡ q
-    place-yes t = rw (places-at n i h) at (ahead-yes lt (places n) p i q here e (rw (places-at n i h) t))
+  pub topped-all : length xs ≤ i → Chosen xs us k
+  topped-all h = record { inside = t .inside; last = ahead-all (reversed (lowerBy us)) xs (t .best) h }
 
-    pub place-no : lt i p ≡ false → ahead lt p (drop (i + 1) (places n)) ≡ q
-    place-no t = ahead-no lt (places n) p i q here e (rw (places-at n i h) t)
+-- The least slack of the first i places is that of p.
+pub record Tight (ds zs ls : List ℕ) (p i : ℕ) : Type 0 where
+  pub asked : Reporting ds zs ls
+  pub inside : p < length ls
+  pub within : i ≤ length ls
+  pub best : Ahead (bySlack (limits ds zs) (at ls)) (places (length ls)) p i
 
-  pub place-end : (p i q : ℕ) → n ≤ i → ahead lt p (drop i (places n)) ≡ q → q ≡ p
-  place-end p i q h e = ahead-end lt (places n) p i q (omega (arith, from-length 0 n)) e
+pub tight-one : {ds zs ls : List ℕ} → Reporting ds zs ls → 0 < length ls → Tight ds zs ls 0 1
+tight-one {ds} {zs} {ls} a h =
+    let n = length ls in
+    let l = from-length 0 n in
+    record {
+      asked = a;
+      inside = h;
+      within = omega arith;
+      best = rw (places-at n 0 h) at (ahead-first (bySlack (limits ds zs) (at ls)) (places n) (omega arith));
+    }
+
+module _ {ds zs ls : List ℕ} {p i : ℕ} (t : Tight ds zs ls p i) where
+  module _ (h : i < length ls) {r : Bool} (e : r ≡ bySlack (limits ds zs) (at ls) i p) where
+    here : i < length (places (length ls))
+    here = omega (arith, from-length 0 (length ls))
+
+    pub tight-new : r ≡ true → Tight ds zs ls i (i + 1)
+    tight-new y =
+        let z = places-at (length ls) i h in
+        record {
+          asked = t .asked;
+          inside = h;
+          within = omega arith;
+          best = rw z at (ahead-new (bySlack (limits ds zs) (at ls)) (places (length ls)) (t .best) here (rw z (sym e ∙ y)));
+        }
+
+    pub tight-old : r ≡ false → Tight ds zs ls p (i + 1)
+    tight-old y =
+        record {
+          asked = t .asked;
+          inside = t .inside;
+          within = omega arith;
+          best = ahead-old (bySlack (limits ds zs) (at ls)) (places (length ls)) (t .best) here (rw (places-at (length ls) i h) (sym e ∙ y));
+        }
+
+  pub tight-all : length ls ≤ i → Tightest ds zs ls p
+  tight-all h =
+      record {
+        inside = t .inside;
+        least = ahead-all (bySlack (limits ds zs) (at ls)) (places (length ls)) (t .best) (omega (arith, from-length 0 (length ls)));
+      }

@@ -1,8 +1,11 @@
-pub mod Held
+pub mod Copied
 pub mod Shifts
-pub mod Chosen
 pub mod Inserting
-pub mod Turns
+pub mod Adding
+pub mod Chosen
+pub mod Held
+pub mod Stepping
 pub mod Raised
 pub mod Reports
 pub mod Results
+pub mod Fitted

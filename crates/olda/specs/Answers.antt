@@ -1,10 +1,12 @@
 -- What the assignment answers and what the result list holds afterwards.
 --
+--   report s d     == what is reported of an accepted set with the local deadlines d
+--   outcome s w    == the answer, if the method's outcome is w
 --   answer s n     == the answer for the set s and a result list of n places
---   values a       == document 01's number and values of an answer: 0 and the report, or the reason's
 --   results s out  == what the result list holds afterwards, if it held out before
+--   values a       == the number and values of an answer: 0 and the report, or the reason's
 --   Assigns s out r out′ == answer and result list are these
-use Prim.Native.Nat.{ℕ, _+_}
+use Prim.Native.Nat.{ℕ}
 use mathlib.Core.List.{List, [], _∷_}
 use mathlib.Core.Path.{_≡_}
 use lib.Dec.{eqb}
@@ -14,7 +16,8 @@ use Rattle.lists.specs.Places.{places}
 use Rattle.lists.specs.Order.{choose, given}
 use Rattle.subjobs.specs.declared.Reason.the-variants.{Late}
 use Rattle.subjobs.specs.Reasons as reasons
-use Rattle.subjobs.specs.Sets.{Subjobs, size, deadline, critical, bound, slack, byBound}
+use Rattle.subjobs.specs.Sets.{Subjobs, size}
+use Rattle.subjobs.specs.Terms.{terms, bound, slack, bySlack}
 use Rattle.subjobs.specs.Judging.{judgement, ifPassed}
 use Rattle.olda.specs.declared.Answer.{Answer}
 use Rattle.olda.specs.declared.Answer.the-variants.{Placed, Nothing, Refused}
@@ -24,13 +27,12 @@ use Rattle.rules.specs.Method.{Outcome, placed, stuck, method}
 -- of its own, "nothing to place", which carries no slack.
 unfoldable pub report : Subjobs → (ℕ → ℕ) → Answer
 report s d =
-    given (choose (byBound (deadline s) (λ i. critical s i + d i)) (places (size s))) Nothing
-    (λ p. Placed (record { slack = slack (deadline s) (critical s) d p; place = p }))
+    given (choose (bySlack (terms s) d) (places (size s))) Nothing (λ p. Placed (record { slack = slack (terms s) d p; place = p }))
 
 -- Number 5: the base sub-job's place, with the completion and its upper bound.
 abbrev pub outcome : Subjobs → Outcome → Answer
 outcome s (placed ds) = report s (λ i. getD ds i 0)
-outcome s (stuck p m) = Refused (Late p m (bound (deadline s) (critical s) p))
+outcome s (stuck p m) = Refused (Late p m (bound (terms s) p))
 
 unfoldable pub answer : Subjobs → ℕ → Answer
 answer s n = ifPassed (judgement s (eqb n (size s))) (outcome s (method s)) Refused

@@ -1,3 +1,2 @@
 pub mod Answers
-pub mod Held
-pub mod Fitting
+pub mod Parts

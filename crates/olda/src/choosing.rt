@@ -1,12 +1,7 @@
-// The base sub-job: the one of the base subset with the greatest upper bound. Bounds are held raised by 1,000,000,000,
-// so that none is negative.
-ghost use Prim.Native.Nat.{_<_};
+// The base sub-job: the one of the base subset with the greatest upper bound. The tie rule of equal bounds stands in
+// `base_job` and nowhere else in the code; in the specification it is `lower`, and `lowerBy` for raised bounds.
 ghost use mathlib.Core.Path.{_≡_};
-ghost use mathlib.Core.Option.{some};
-ghost use lib.ListN.{length, getD};
-ghost use Rattle.lists.specs.Places.{Every};
-ghost use Rattle.lists.specs.Order.{reversed, choose};
-ghost use Rattle.rules.specs.Rules.{lower};
+ghost use Rattle.olda.specs.Parts.{Choosing, Chosen};
 
 // A place as an index.
 pub(crate) fn index(place: u32) -> usize
@@ -15,11 +10,10 @@ pub(crate) fn index(place: u32) -> usize
     place as usize
 }
 
-// Where the base sub-job stands among the sub-jobs of the base subset, which are given by their places. The tie rule of
-// equal bounds stands here and nowhere else in the code.
+// Where the base sub-job stands among the sub-jobs of the base subset, which are given by their places.
 pub(crate) fn base_job(order: &[u32], bounds: &[u32]) -> usize
-    requires { ⌜ (0 < length (now order)) × Every (λ p. p < length (now bounds)) (now order) ⌝ }
-    ensures { λ k. ⌜ (k < length (now (order .entry))) × (choose (reversed (lower (λ i. getD (now (bounds .entry)) i 0) (λ i. 0))) (now (order .entry)) ≡ some (getD (now (order .entry)) k 0)) ⌝ }
+    requires { ⌜ Choosing (now order) (now bounds) ⌝ }
+    ensures { λ k. ⌜ Chosen (now (order .entry)) (now (bounds .entry)) k ⌝ }
 {
     let mut at = 0;
     let mut top = bounds[index(order[0])];

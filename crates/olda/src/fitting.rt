@@ -1,16 +1,14 @@
-// The assignment of a set that fits, that is, one that passes refusals 1 to 4.
+// The assignment of a set that fits, that is, one that passes refusals 1 to 4. The set is handed on whole, by its six
+// lists; jobs and subtasks are there for a tie rule that reads them (order 1), which today's does not.
 ghost use Prim.Native.Nat.{_≤_};
 ghost use mathlib.Core.Path.{_≡_};
-ghost use lib.ListN.{length, take, replicate};
-ghost use Rattle.olda.specs.Fitting.{Fits, Settled, Assigned};
-use crate::Answer;
-use crate::placing::Placing;
-use crate::placing::method;
-use crate::reporting::raise;
-use crate::reporting::report;
-use crate::reporting::signed;
+ghost use lib.ListN.{length, take};
+ghost use Rattle.subjobs.specs.Sets.{subjobs};
+ghost use Rattle.olda.specs.Parts.{Fits, Room, Places};
+use crate::bounding::raise;
+use crate::placing::place_all;
+use crate::sorting::in_order;
 use subjobs::Judgement;
-use subjobs::Reason;
 
 // Writes the first numbers of a list over the whole of another.
 fn copy(from: &[u32], to: &mut [u32])
@@ -27,6 +25,8 @@ fn copy(from: &[u32], to: &mut [u32])
 // The steps, with room lent for the raised bounds, the local deadlines, the places in release order and the completions
 // of their tails; that for the deadlines holds zeros. The result list is written when all have their deadlines, and not before.
 fn place_in(
+    jobs: &[u32],
+    subtasks: &[u32],
     releases: &[u32],
     executions: &[u32],
     deadlines: &[u32],
@@ -37,40 +37,47 @@ fn place_in(
     order: &mut [u32],
     ends: &mut [u32],
 ) -> Judgement
-    requires { ⌜ Fits (now releases) (now executions) (now deadlines) (now criticals) × (length (now out) ≡ length (now releases)) × (length (now releases) ≤ length (now bounds)) × (length (now releases) ≤ length (now local)) × (length (now releases) ≤ length (now order)) × (length (now releases) ≤ length (now ends)) × (now local ≡ replicate (length (now local)) 0) ⌝ }
-    ensures { λ r. ⌜ Settled (now (releases .entry)) (now (executions .entry)) (now (deadlines .entry)) (now (criticals .entry)) (now (out .entry)) r (now (out .exit)) ⌝ }
+    requires { ⌜ Room (subjobs (now jobs) (now subtasks) (now releases) (now executions) (now deadlines) (now criticals))
+        (now out) (now bounds) (now local) (now order) (now ends) ⌝ }
+    ensures { λ r. ⌜ Places (subjobs (now (jobs .entry)) (now (subtasks .entry)) (now (releases .entry))
+        (now (executions .entry)) (now (deadlines .entry)) (now (criticals .entry)))
+        (now (out .entry)) r (now (out .exit)) ⌝ }
 {
     raise(deadlines, criticals, bounds);
-    let placing = method(releases, executions, bounds, order, ends, local);
-    match placing {
-        Placing::Placed => {
-            copy(local, out);
-            Judgement::Passed
-        }
-        Placing::Stuck { place, completion } => Judgement::Refused(Reason::Late {
-            place,
-            completion,
-            bound: signed(bounds[place]),
-        }),
+    in_order(releases, order);
+    let count = releases.len();
+    let judgement = place_all(releases, executions, bounds, order, ends, local, count);
+    if let Judgement::Refused(reason) = judgement {
+        return Judgement::Refused(reason);
     }
+    copy(local, out);
+    Judgement::Passed
 }
 
 // The same with the room made here, for up to 8 sub-jobs: less of it is cleared before each call.
-fn place_few(
+pub(crate) fn place_few(
+    jobs: &[u32],
+    subtasks: &[u32],
     releases: &[u32],
     executions: &[u32],
     deadlines: &[u32],
     criticals: &[u32],
     out: &mut [u32],
 ) -> Judgement
-    requires { ⌜ Fits (now releases) (now executions) (now deadlines) (now criticals) × (length (now out) ≡ length (now releases)) × (length (now releases) ≤ 8) ⌝ }
-    ensures { λ r. ⌜ Settled (now (releases .entry)) (now (executions .entry)) (now (deadlines .entry)) (now (criticals .entry)) (now (out .entry)) r (now (out .exit)) ⌝ }
+    requires { ⌜ Fits (subjobs (now jobs) (now subtasks) (now releases) (now executions) (now deadlines) (now criticals))
+        (now out) ⌝ }
+    requires { ⌜ length (now jobs) ≤ 8 ⌝ }
+    ensures { λ r. ⌜ Places (subjobs (now (jobs .entry)) (now (subtasks .entry)) (now (releases .entry))
+        (now (executions .entry)) (now (deadlines .entry)) (now (criticals .entry)))
+        (now (out .entry)) r (now (out .exit)) ⌝ }
 {
     let mut bounds = [0u32; 8];
     let mut local = [0u32; 8];
     let mut order = [0u32; 8];
     let mut ends = [0u32; 8];
     place_in(
+        jobs,
+        subtasks,
         releases,
         executions,
         deadlines,
@@ -84,21 +91,28 @@ fn place_few(
 }
 
 // The same for up to 128.
-fn place_many(
+pub(crate) fn place_many(
+    jobs: &[u32],
+    subtasks: &[u32],
     releases: &[u32],
     executions: &[u32],
     deadlines: &[u32],
     criticals: &[u32],
     out: &mut [u32],
 ) -> Judgement
-    requires { ⌜ Fits (now releases) (now executions) (now deadlines) (now criticals) × (length (now out) ≡ length (now releases)) × (length (now releases) ≤ 128) ⌝ }
-    ensures { λ r. ⌜ Settled (now (releases .entry)) (now (executions .entry)) (now (deadlines .entry)) (now (criticals .entry)) (now (out .entry)) r (now (out .exit)) ⌝ }
+    requires { ⌜ Fits (subjobs (now jobs) (now subtasks) (now releases) (now executions) (now deadlines) (now criticals))
+        (now out) ⌝ }
+    ensures { λ r. ⌜ Places (subjobs (now (jobs .entry)) (now (subtasks .entry)) (now (releases .entry))
+        (now (executions .entry)) (now (deadlines .entry)) (now (criticals .entry)))
+        (now (out .entry)) r (now (out .exit)) ⌝ }
 {
     let mut bounds = [0u32; 128];
     let mut local = [0u32; 128];
     let mut order = [0u32; 128];
     let mut ends = [0u32; 128];
     place_in(
+        jobs,
+        subtasks,
         releases,
         executions,
         deadlines,
@@ -109,40 +123,4 @@ fn place_many(
         &mut order,
         &mut ends,
     )
-}
-
-// The same in the room that the set needs.
-fn place(
-    releases: &[u32],
-    executions: &[u32],
-    deadlines: &[u32],
-    criticals: &[u32],
-    out: &mut [u32],
-) -> Judgement
-    requires { ⌜ Fits (now releases) (now executions) (now deadlines) (now criticals) × (length (now out) ≡ length (now releases)) ⌝ }
-    ensures { λ r. ⌜ Settled (now (releases .entry)) (now (executions .entry)) (now (deadlines .entry)) (now (criticals .entry)) (now (out .entry)) r (now (out .exit)) ⌝ }
-{
-    if releases.len() <= 8 {
-        place_few(releases, executions, deadlines, criticals, out)
-    } else {
-        place_many(releases, executions, deadlines, criticals, out)
-    }
-}
-
-// The assignment of a set that fits: the steps, and the report if all have their deadlines.
-pub(crate) fn assign_fit(
-    releases: &[u32],
-    executions: &[u32],
-    deadlines: &[u32],
-    criticals: &[u32],
-    out: &mut [u32],
-) -> Answer
-    requires { ⌜ Fits (now releases) (now executions) (now deadlines) (now criticals) × (length (now out) ≡ length (now releases)) ⌝ }
-    ensures { λ r. ⌜ Assigned (now (releases .entry)) (now (executions .entry)) (now (deadlines .entry)) (now (criticals .entry)) (now (out .entry)) r (now (out .exit)) ⌝ }
-{
-    let placed = place(releases, executions, deadlines, criticals, out);
-    match placed {
-        Judgement::Refused(reason) => Answer::Refused(reason),
-        Judgement::Passed => report(deadlines, criticals, out),
-    }
 }

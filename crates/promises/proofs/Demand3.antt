@@ -2,50 +2,43 @@
 use Prim.Native.Nat.{ℕ}
 use mathlib.Core.Bool.{true}
 use mathlib.Core.List.{List}
-use mathlib.Core.Path.{_≡_, _∙_}
+use mathlib.Core.Path.{_≡_, sym}
 use native.Mathlib.Omega.{arith}
-use borrow.Author.Tests.{eqb-true}
+use borrow.Author.Tests.{eq-eqb}
 use lib.Dec.{eqb}
 use lib.ListN.{length}
 use Rattle.subjobs.specs.Sets.{Subjobs, size}
-use Rattle.subjobs.proofs.Fit.{fit}
-use Rattle.olda.specs.Answers.{answer, results}
-use Rattle.promises.specs.Assignment.{accepted}
-use Rattle.promises.specs.Core.{Passes}
+use Rattle.subjobs.specs.Faults.{Fit}
+use Rattle.promises.specs.Words.{Assigned}
 use Rattle.promises.specs.Demand3.{Demand3, InTime, CheckerAgrees, FinishIsDeadline}
-use Rattle.promises.proofs.Assignment.{deadlines-meet-six-and-seven, accepted-passed, accepted-placed}
-use Rattle.promises.proofs.Core.{keeps-deadlines, never-more, checks-exactly}
+use Rattle.promises.proofs.Assign.{assigned-rules, deadlines-meet-six-and-seven}
+use Rattle.promises.proofs.Simulate.{never-more}
+use Rattle.promises.proofs.Check.{keeps-deadlines, checks-exactly}
 use Rattle.promises.proofs.Exact.{exactly-on-the-deadline}
-use Rattle.olda.proofs.Results.{results-length}
 
-module _ (s : Subjobs) (out : List ℕ) (a : accepted (answer s (length out)) ≡ true) where
-  passes : Passes s
-  passes =
-      let e = accepted-passed s (length out) a in
-      rw (fit s (eqb (length out) (size s)) e .lengths .further) at e
-
-  written-length : length (results s out) ≡ size s
-  written-length =
-      results-length s out
-      ∙ eqb-true (length out) (size s) (fit s (eqb (length out) (size s)) (accepted-passed s (length out) a) .lengths .further)
+-- An accepted set fits, whatever further lists are as long as its own.
+fits : (s : Subjobs) (ds : List ℕ) → Assigned s ds → Fit s true
+fits s ds h = let w = assigned-rules s ds h in rw (w .0 .lengths .further) at (w .0)
 
 pub demand-3 : Demand3
-demand-3 s out asks a =
-    let m = deadlines-meet-six-and-seven s out a in
-    let p = passes s out a in (
-      λ i h. keeps-deadlines s (results s out) asks p (m .0) (m .1) i h .0,
-      never-more s (results s out) asks p,
-      exactly-on-the-deadline s true (results s out) asks p (accepted-placed s out a),
+demand-3 s ds asks h =
+    let m = deadlines-meet-six-and-seven s ds h in
+    let w = assigned-rules s ds h in
+    let f = fits s ds h in (
+      λ i b. keeps-deadlines s ds asks f (m .0) (m .1) i b .0,
+      never-more s ds asks f,
+      λ whole. exactly-on-the-deadline s true f ds asks (w .2) whole (w .1),
     )
 
 pub in-time : InTime
-in-time s out asks a i h =
-    let m = deadlines-meet-six-and-seven s out a in
-    keeps-deadlines s (results s out) asks (passes s out a) (m .0) (m .1) i h .1
+in-time s ds asks h i b =
+    let m = deadlines-meet-six-and-seven s ds h in
+    keeps-deadlines s ds asks (fits s ds h) (m .0) (m .1) i b .1
 
 pub checker-agrees : CheckerAgrees
-checker-agrees s out a =
-    checks-exactly s (results s out) (passes s out a) (written-length s out a) .1 (deadlines-meet-six-and-seven s out a)
+checker-agrees s ds h =
+    let l : eqb (length ds) (size s) ≡ true = eq-eqb _ _ (assigned-rules s ds h .1) in
+    checks-exactly s ds (rw l (fits s ds h)) .1 (deadlines-meet-six-and-seven s ds h)
 
 pub finish-is-deadline : FinishIsDeadline
-finish-is-deadline s out a = demand-3 s out (s .executions) a .2 (λ i h. omega arith)
+finish-is-deadline s ds h = demand-3 s ds (s .executions) h .2 (λ i b. omega arith)

@@ -1,167 +1,263 @@
--- The proofs of what the engine can tell from a returned number, and of what the door leaves in the results.
-use Prim.Native.Nat.{ℕ, _*_, _<_}
-use mathlib.Core.Bool.{true}
-use mathlib.Core.List.{List}
-use mathlib.Core.Logic.{_≢_, _⊎_, inl, inr, _↔_}
-use mathlib.Core.Path.{_≡_, refl, sym, ap, _∙_}
+-- What is promised of the engine's door holds: what it returns and leaves is what the assignment and the checker say of the
+-- records, in one number.
+use Prim.Native.Nat.{ℕ, _+_, _*_, _/_, _%_, _<_}
+use mathlib.Core.Bool.{true, false}
+use mathlib.Core.List.{List, [], _∷_}
+use mathlib.Core.Logic.{_≢_}
+use mathlib.Core.Path.{_≡_, refl, sym, ap, _∙_, subst}
 use native.Mathlib.Omega.{arith}
+use borrow.Author.Tests.{eqb-true, eq-eqb}
 use lib.Dec.{eqb}
-use lib.ListN.{length, getD, replicate, length-replicate, drop-of-length-le}
-use Rattle.lists.proofs.Cases.{split, test, clash}
+use lib.IntN.{ℤ, pos}
+use lib.ListN.{length, getD, replicate, length-replicate}
+use Rattle.lists.proofs.Cases.{test, clash, both}
+use Rattle.lists.proofs.Members.{in-places}
 use Rattle.subjobs.specs.declared.Reason.{Reason}
-use Rattle.subjobs.specs.declared.Reason.the-variants.{Lengths}
-use Rattle.subjobs.specs.Reasons.{placeOf}
+use Rattle.subjobs.specs.Reasons.{numberOf, placeOf}
 use Rattle.subjobs.specs.Sets.{Subjobs, size}
-use Rattle.subjobs.proofs.Fit.{fit}
+use Rattle.subjobs.proofs.Reported.{number-range}
 use Rattle.olda.specs.declared.Answer.{Answer}
 use Rattle.olda.specs.declared.Answer.the-variants.{Placed, Nothing, Refused}
-use Rattle.olda.specs.Answers.{answer, results}
-use Rattle.olda.proofs.Results.{refused-within, results-length}
+use Rattle.olda.specs.Answers as olda
+use Rattle.olda.proofs.Results as results
 use Rattle.checker.specs.declared.Answer as checking
 use Rattle.checker.specs.declared.Answer.the-variants as check
 use Rattle.checker.specs.Answers as checker
 use Rattle.checker.proofs.Reported as reported
 use Rattle.charoktan.specs.Records.{count, records, encoded, words, fitting}
 use Rattle.charoktan.specs.Answers.{code, assigned, assignedBytes, checked}
-use Rattle.charoktan.proofs.Coding.{length-encoded, words-encoded, number-range}
+use Rattle.charoktan.proofs.Coding.{length-encoded, words-encoded}
 use Rattle.charoktan.proofs.Door.{fit-length, size-records, unfit, answered, unfit-check, answered-check}
-use Rattle.promises.specs.Assignment.{accepted}
-use Rattle.promises.specs.Door.{Tells, RefusalsTold, ZeroIsAccepted, DoorAgrees}
-use Rattle.promises.proofs.Assignment.{accepted-passed, nothing-is-empty, deadlines-meet-six-and-seven}
+use Rattle.promises.specs.Words.{accepted, Assigned, at}
+use Rattle.promises.specs.Assign as assign
+use Rattle.promises.specs.Assign.{AssignSays}
+use Rattle.promises.specs.Check.{CheckSays}
+use Rattle.promises.specs.Door as says
+use Rattle.promises.specs.Door.{Whole, room, DoorAssignSays, DoorCheckSays, DoorAssigns, DoorChecks, ToldApart, DoorAgrees}
+use Rattle.promises.proofs.Faulted.{faulted, refused-number}
+use Rattle.promises.proofs.Assign.{assign-answers, assigned-rules, deadlines-meet-six-and-seven}
+use Rattle.promises.proofs.Check.{check-answers}
 use Rattle.promises.proofs.Demand3.{checker-agrees}
 
--- A refusal's number is below 65,536, so its code holds both parts.
-code-tells : (r : Reason) (returned : ℕ) → returned ≡ code r → placeOf r < 128 → Tells returned r
-code-tells r returned e p = let h = number-range r in (omega arith, omega arith, p)
+-- The lengths fit exactly if the records are whole and the deadlines have 4 bytes for each.
+whole : (bs ds : List ℕ) → fitting bs (length ds) ≡ true → Whole bs ds
+whole bs ds e =
+    let w = both {a = eqb (length bs % 24) 0} {b = eqb (length ds) (4 * count bs)} e in
+    (eqb-true _ _ (w .0), eqb-true _ _ (w .1))
 
-pub refusals-told : RefusalsTold
-refusals-told bs ds = (
-  λ e.
-      (code-tells Lengths (assigned bs (length ds)) (unfit bs ds e .0) (omega arith), code-tells Lengths (checked bs ds) (unfit-check bs ds e) (omega arith)),
-  λ e r. (
-    λ q. code-tells r (assigned bs (length ds)) (answered bs ds e (Refused r) q .0) (refused-within (records bs) (count bs) r q),
-    λ q.
-        code-tells r (checked bs ds) (answered-check bs ds e (check.Refused r) q)
-        (reported.refused-within (records bs) (words ds (count bs)) r q),
-  ),
-)
+fits : (bs ds : List ℕ) → Whole bs ds → fitting bs (length ds) ≡ true
+fits bs ds w = rw (eq-eqb (length bs % 24) 0 (w .0), eq-eqb (length ds) (4 * count bs) (w .1))
 
--- No refusal has the number 0.
-code-not-0 : {X : Type 0} (r : Reason) (returned : ℕ) → returned ≡ code r → returned ≡ 0 → X
-code-not-0 r returned e z = let h = number-range r in absurd (omega arith)
+nil : (l : List ℕ) → length l ≡ 0 → l ≡ []
+nil [] e = refl
+nil (x ∷ l) e = absurd (omega arith)
 
--- What the results hold after acceptance: nothing in it comes from what they held.
-abbrev written : List ℕ → List ℕ
-written bs = encoded (results (records bs) (replicate (count bs) 0))
+room-length : (bs : List ℕ) → length (room bs) ≡ count bs
+room-length bs = length-replicate {A = ℕ} (count bs) 0
 
-length-written : (bs : List ℕ) → length (written bs) ≡ 4 * count bs
-length-written bs =
-    let zeros : List ℕ = replicate (count bs) 0 in
-    omega (arith, length-encoded (results (records bs) zeros), results-length (records bs) zeros, length-replicate {A = ℕ} (count bs) 0)
+-- The values of an answer begin with 0, or are a refusal's, which begin with its number and place.
+assign-refuses :
+    {n p : ℕ} {vs : List ℤ} (a : Answer)
+    → pos n ∷ pos p ∷ vs ≡ olda.values a
+    → n ≢ 0
+    → (r : Reason) × (a ≡ Refused r) × (n ≡ numberOf r) × (p ≡ placeOf r)
+assign-refuses {n} (Placed r) e z = let q : n ≡ 0 = cc in absurd (z q)
+assign-refuses {n} Nothing e z = let q : n ≡ 0 = cc in absurd (z q)
+assign-refuses {n} {p} (Refused r) e z = (r, refl, cc, cc)
 
--- An empty set has no bytes to write.
-no-records : (bs : List ℕ) → answer (records bs) (count bs) ≡ Nothing → count bs ≡ 0
-no-records bs q =
-    let zeros : List ℕ = replicate (count bs) 0 in
-    let n : answer (records bs) (length zeros) ≡ Nothing = ap (answer (records bs)) (length-replicate {A = ℕ} (count bs) 0) ∙ q in
-    sym (size-records bs)
-    ∙ nothing-is-empty (records bs) zeros (accepted-passed (records bs) (length zeros) (ap accepted n)) .0 n
+check-refuses :
+    {n p : ℕ} {vs : List ℤ} (a : checking.Answer)
+    → pos n ∷ pos p ∷ vs ≡ checker.values a
+    → n ≢ 0
+    → (r : Reason) × (a ≡ check.Refused r) × (n ≡ numberOf r) × (p ≡ placeOf r)
+check-refuses {n} check.Accepted e z = let q : n ≡ 0 = cc in absurd (z q)
+check-refuses {n} {p} (check.Refused r) e z = (r, refl, cc, cc)
 
--- The two ways a call of the assignment ends: it is taken and all is written, or it is refused and all is left.
+check-accepts : {vs : List ℤ} (a : checking.Answer) → pos 0 ∷ vs ≡ checker.values a → a ≡ check.Accepted
+check-accepts check.Accepted e = refl
+check-accepts (check.Refused r) e = let q : 0 ≡ numberOf r = cc in absurd (omega (arith, number-range r .0))
+
+check-taken : (a : checking.Answer) → accepted (checker.values a) → a ≡ check.Accepted
+check-taken check.Accepted e = refl
+check-taken (check.Refused r) e = absurd (refused-number r e)
+
+-- "Nothing to place" is said of an empty set alone, and leaves an empty list.
+nothing-placed :
+    (s : Subjobs) (out : List ℕ) {v : List ℤ} {l : List ℕ} → AssignSays s out v l → v ≡ pos 0 ∷ [] → (size s ≡ 0) × (l ≡ [])
+nothing-placed s out (assign.faulty f) e =
+    let w = faulted s (assign.resultsFit s out) f in absurd (refused-number (w .0) (subst accepted (sym (sym (w .2) ∙ e)) refl))
+nothing-placed s out (assign.late f h) e = let z : _≡_ {A = ℕ} 5 0 = cc in absurd (omega arith)
+nothing-placed s out (assign.nothing f z) e = (z, refl)
+nothing-placed s out (assign.placed f l h r) e = let z : _≡_ {A = ℕ} 0 1 = cc in absurd (omega arith)
+
+not-0 : (r : Reason) → numberOf r ≢ 0
+not-0 r e = omega (arith, number-range r .0)
+
 module _ (bs out : List ℕ) where
-  abbrev Accepts : Type 0
-  Accepts = (fitting bs (length out) ≡ true) × (accepted (answer (records bs) (count bs)) ≡ true)
+  -- What the assignment answers on the records, with a result list of their number.
+  asked : olda.answer (records bs) (count bs) ≡ olda.answer (records bs) (length (room bs))
+  asked = ap (olda.answer (records bs)) (sym (room-length bs))
 
-  abbrev Taken : Type 0
-  Taken = Accepts × (assigned bs (length out) ≡ 0) × (assignedBytes bs out ≡ written bs)
+  said : AssignSays (records bs) (room bs) (olda.values (olda.answer (records bs) (length (room bs)))) (olda.results (records bs) (room bs))
+  said = assign-answers (records bs) (room bs) .0
 
-  abbrev Left : Type 0
-  Left = (r : Reason) × (Accepts → ⊥) × (assigned bs (length out) ≡ code r) × (assignedBytes bs out ≡ out)
+  module _ (e : fitting bs (length out) ≡ true) where
+    refused-so :
+        {r : Reason} → olda.answer (records bs) (length (room bs)) ≡ Refused r
+        → (code r ≡ assigned bs (length out)) × (out ≡ assignedBytes bs out)
+    refused-so {r} q = let w = answered bs out e (Refused r) (asked ∙ q) in (sym (w .0), sym (w .1))
 
-  assigned-cases : Taken ⊎ Left
-  assigned-cases =
-      test (fitting bs (length out))
-      (λ e. by-answer e (answer (records bs) (count bs)) refl)
-      (λ e. inr (Lengths, λ h. clash (h .0) e, unfit bs out e .0, unfit bs out e .1))
-    where
-      by-answer : fitting bs (length out) ≡ true → (a : Answer) → answer (records bs) (count bs) ≡ a → Taken ⊎ Left
-      by-answer e (Placed r) q = let d = answered bs out e (Placed r) q in inl ((e, ap accepted q), d .0, d .1)
-      by-answer e (Refused r) q =
-          let d = answered bs out e (Refused r) q in inr (r, λ h. clash (h .1) (ap accepted q), d .0, d .1)
-      by-answer e Nothing q =
-          let d = answered bs out e Nothing q in
-          let n = no-records bs q in
-          let none = drop-of-length-le out {i = 0} (omega (arith, fit-length bs (length out) e)) in
-          let nothing = drop-of-length-le (written bs) {i = 0} (omega (arith, length-written bs)) in
-          inl ((e, ap accepted q), d .0, d .1 ∙ none ∙ sym nothing)
+    placed-so :
+        {ds : List ℕ} (a : Answer)
+        → olda.answer (records bs) (length (room bs)) ≡ a
+        → accepted (olda.values a)
+        → AssignSays (records bs) (room bs) (olda.values a) ds
+        → (0 ≡ assigned bs (length out)) × (encoded ds ≡ assignedBytes bs out)
+    placed-so {ds} (Placed r) q acc h =
+        let w = answered bs out e (Placed r) (asked ∙ q) in
+        (sym (w .0), ap encoded (assign-answers (records bs) (room bs) .1 _ ds h .1) ∙ sym (w .1))
+    placed-so {ds} Nothing q acc h =
+        let w = nothing-placed (records bs) (room bs) h refl in
+        let none : length out ≡ 0 = omega (arith, fit-length bs (length out) e, size-records bs, w .0) in
+        let a = answered bs out e Nothing (asked ∙ q) in
+        (sym (a .0), ap encoded (w .1) ∙ nil (encoded []) (length-encoded []) ∙ sym (nil out none) ∙ sym (a .1))
+    placed-so (Refused r) q acc h = absurd (refused-number r acc)
 
+    fitted : DoorAssignSays bs out (assigned bs (length out)) (assignedBytes bs out)
+    fitted = by-answer (olda.answer (records bs) (length (room bs))) refl
+      where
+        by-answer :
+            (a : Answer)
+            → olda.answer (records bs) (length (room bs)) ≡ a
+            → DoorAssignSays bs out (assigned bs (length out)) (assignedBytes bs out)
+        by-answer (Refused r) q =
+            let w = refused-so q in
+            rw (← w .0, ← w .1) (says.refused (whole bs out e) (rw q at said) (not-0 r))
+        by-answer (Placed r) q =
+            let h = rw q at said in
+            let w = placed-so (Placed r) q refl h in
+            rw (← w .0, ← w .1) (says.placed (whole bs out e) h)
+        by-answer Nothing q =
+            let h = rw q at said in
+            let w = placed-so Nothing q refl h in
+            rw (← w .0, ← w .1) (says.placed (whole bs out e) h)
+
+  says-so : DoorAssignSays bs out (assigned bs (length out)) (assignedBytes bs out)
+  says-so =
+      test (fitting bs (length out)) fitted
+      (λ n. let w = unfit bs out n in rw (w .0, w .1) (says.lengths (λ h. clash (fits bs out h) n)))
+
+  -- What RULES says is what the door returns and leaves.
+  only : {n : ℕ} {l : List ℕ} → DoorAssignSays bs out n l → (n ≡ assigned bs (length out)) × (l ≡ assignedBytes bs out)
+  only (says.lengths h) = test (fitting bs (length out)) (λ e. absurd (h (whole bs out e))) (λ n. let w = unfit bs out n in (sym (w .0), sym (w .1)))
+  only (says.refused {n} {p} w h z) =
+      let v = assign-answers (records bs) (room bs) .1 _ _ h .0 in
+      let q = assign-refuses (olda.answer (records bs) (length (room bs))) v z in
+      let d = refused-so (fits bs out w) (q .1) in
+      (omega (arith, d .0, q .2, q .3), d .1)
+  only (says.placed {vs} {ds} w h) =
+      let v = assign-answers (records bs) (room bs) .1 _ _ h .0 in
+      placed-so (fits bs out w) (olda.answer (records bs) (length (room bs))) refl (rw (← v) refl) (rw v at h)
+
+  -- A number other than 0 leaves every byte.
   pub door-keeps : assigned bs (length out) ≢ 0 → assignedBytes bs out ≡ out
-  door-keeps h = split assigned-cases (λ w. absurd (h (w .1))) (λ w. w .3)
+  door-keeps z = kept says-so z
+    where
+      kept : {n : ℕ} {l : List ℕ} → DoorAssignSays bs out n l → n ≢ 0 → l ≡ out
+      kept (says.lengths h) z = refl
+      kept (says.refused w h n) z = refl
+      kept (says.placed w h) z = absurd (z refl)
 
-  taken : assigned bs (length out) ≡ 0 → Taken
-  taken z = split assigned-cases (λ w. w) (λ w. code-not-0 (w .0) (assigned bs (length out)) (w .2) z)
+  -- The number 0 means that the assignment accepts the records, and its deadlines are written.
+  pub door-placed :
+      assigned bs (length out) ≡ 0
+      → Whole bs out × Assigned (records bs) (olda.results (records bs) (room bs))
+      × (assignedBytes bs out ≡ encoded (olda.results (records bs) (room bs)))
+  door-placed z = taken says-so z
+    where
+      taken :
+          {n : ℕ} {l : List ℕ}
+          → DoorAssignSays bs out n l
+          → n ≡ 0
+          → Whole bs out × Assigned (records bs) (olda.results (records bs) (room bs)) × (l ≡ encoded (olda.results (records bs) (room bs)))
+      taken (says.lengths h) z = absurd (omega arith)
+      taken (says.refused w h n) z = absurd (n (omega arith))
+      taken (says.placed w h) z =
+          let q = assign-answers (records bs) (room bs) .1 _ _ h in
+          (w, (room bs, rw (← q .0) refl, refl), ap encoded (q .1))
 
-  assign-accepts : (assigned bs (length out) ≡ 0) ↔ Accepts
-  assign-accepts = (λ z. taken z .0, λ h. split assigned-cases (λ w. w .1) (λ w. absurd (w .1 h)))
-
-pub door-writes-all :
-    (bs out old : List ℕ)
-    → assigned bs (length out) ≡ 0
-    → length old ≡ length out
-    → (assignedBytes bs out ≡ assignedBytes bs old) × (length (assignedBytes bs out) ≡ length out)
-door-writes-all bs out old z l =
-    let a = taken bs out z in
-    let b = taken bs old (rw l z) in
-    (a .2 ∙ sym (b .2), omega (arith, ap length (a .2), length-written bs, fit-length bs (length out) (a .0 .0)))
+pub door-assigns : DoorAssigns
+door-assigns bs out = (says-so bs out, λ n l h. only bs out h)
 
 module _ (bs ds : List ℕ) where
-  abbrev Checks : Type 0
-  Checks = (fitting bs (length ds) ≡ true) × (checker.answer (records bs) (words ds (count bs)) ≡ check.Accepted)
-
-  check-accepts : (checked bs ds ≡ 0) ↔ Checks
-  check-accepts =
+  checks-so : DoorCheckSays bs ds (checked bs ds)
+  checks-so =
       test (fitting bs (length ds))
       (λ e. by-answer e (checker.answer (records bs) (words ds (count bs))) refl)
-      (λ e. (λ z. code-not-0 Lengths (checked bs ds) (unfit-check bs ds e) z, λ h. clash (h .0) e))
+      (λ n. rw (unfit-check bs ds n) (says.lengths (λ h. clash (fits bs ds h) n)))
     where
       by-answer :
           fitting bs (length ds) ≡ true
           → (a : checking.Answer)
           → checker.answer (records bs) (words ds (count bs)) ≡ a
-          → (checked bs ds ≡ 0) ↔ Checks
-      by-answer e check.Accepted q = (λ z. (e, q), λ h. answered-check bs ds e check.Accepted q)
-      by-answer e (check.Refused r) q = (
-        λ z. code-not-0 r (checked bs ds) (answered-check bs ds e (check.Refused r) q) z,
-        λ h. let n = h .1 in let z : _≡_ {A = ℕ} 0 1 = cc in absurd (omega arith),
-      )
+          → DoorCheckSays bs ds (checked bs ds)
+      by-answer e check.Accepted q =
+          rw (answered-check bs ds e check.Accepted q)
+          (says.met (whole bs ds e) (rw q at (check-answers (records bs) (words ds (count bs)) .0)))
+      by-answer e (check.Refused r) q =
+          rw (answered-check bs ds e (check.Refused r) q)
+          (says.refused (whole bs ds e) (rw q at (check-answers (records bs) (words ds (count bs)) .0)) (not-0 r))
 
-pub zero-is-accepted : ZeroIsAccepted
-zero-is-accepted bs ds = (assign-accepts bs ds, check-accepts bs ds)
+  refused-check : {n p : ℕ} {vs : List ℤ} → Whole bs ds → CheckSays (records bs) (words ds (count bs)) (pos n ∷ pos p ∷ vs) → n ≢ 0 → n + 65_536 * p ≡ checked bs ds
+  refused-check w h z =
+      let v = check-answers (records bs) (words ds (count bs)) .1 _ h in
+      let q = check-refuses (checker.answer (records bs) (words ds (count bs))) v z in
+      omega (arith, answered-check bs ds (fits bs ds w) (check.Refused (q .0)) (q .1), q .2, q .3)
 
--- The deadlines of an accepted set are below 2^32: none is above the end-to-end deadline.
-deadlines-small :
-    (s : Subjobs) (out : List ℕ)
-    → accepted (answer s (length out)) ≡ true
-    → (i : ℕ)
-    → i < size s
-    → getD (results s out) i 0 < 4_294_967_296
-deadlines-small s out a i h =
-    omega (
-      arith,
-      deadlines-meet-six-and-seven s out a .0 i h .1,
-      fit s (eqb (length out) (size s)) (accepted-passed s (length out) a) .ranges i h .deadline,
-    )
+  check-only : {n : ℕ} → DoorCheckSays bs ds n → n ≡ checked bs ds
+  check-only (says.lengths h) = test (fitting bs (length ds)) (λ e. absurd (h (whole bs ds e))) (λ n. sym (unfit-check bs ds n))
+  check-only (says.refused w h z) = refused-check w h z
+  check-only (says.met w h) =
+      sym
+      (answered-check bs ds (fits bs ds w) check.Accepted
+      (check-accepts (checker.answer (records bs) (words ds (count bs))) (check-answers (records bs) (words ds (count bs)) .1 _ h)))
+
+pub door-checks : DoorChecks
+door-checks bs ds = (checks-so bs ds, λ n h. check-only bs ds h)
+
+-- A number below 65,536 and a place are told apart again.
+parted : (returned : ℕ) (r : Reason) {n p : ℕ} → returned ≡ n + 65_536 * p → n ≡ numberOf r → p ≡ placeOf r → placeOf r < 128 → (returned % 65_536 ≡ n) × (returned / 65_536 ≡ p) × (p < 128)
+parted returned r e a b h = let w = number-range r in (omega arith, omega arith, omega arith)
+
+pub told-apart : ToldApart
+told-apart bs ds l n p vs w z = (
+  λ h.
+      let v = assign-answers (records bs) (room bs) .1 _ _ h .0 in
+      let q = assign-refuses (olda.answer (records bs) (length (room bs))) v z in
+      parted (assigned bs (length ds)) (q .0) (sym (only bs ds (says.refused w h z) .0)) (q .2) (q .3)
+      (results.refused-within (records bs) (length (room bs)) (q .0) (q .1)),
+  λ h.
+      let v = check-answers (records bs) (words ds (count bs)) .1 _ h in
+      let q = check-refuses (checker.answer (records bs) (words ds (count bs))) v z in
+      parted (checked bs ds) (q .0) (sym (refused-check bs ds w h z)) (q .2) (q .3)
+      (reported.refused-within (records bs) (words ds (count bs)) (q .0) (q .1)),
+)
 
 pub door-agrees : DoorAgrees
 door-agrees bs out z =
-    let t = taken bs out z in
-    let zeros : List ℕ = replicate (count bs) 0 in
-    let n : length zeros ≡ count bs = length-replicate {A = ℕ} (count bs) 0 in
-    let a : accepted (answer (records bs) (length zeros)) ≡ true = rw n (t .0 .1) in
-    let l : length (results (records bs) zeros) ≡ count bs = results-length (records bs) zeros ∙ n in
-    let back : words (written bs) (count bs) ≡ results (records bs) zeros =
-    words-encoded (results (records bs) zeros) (count bs) l
-    (λ i h. deadlines-small (records bs) zeros a i (omega (arith, size-records bs)))
+    let w = door-placed bs out z in
+    let s = records bs in
+    let ds = olda.results s (room bs) in
+    let r = assigned-rules s ds (w .1) in
+    let l : length ds ≡ count bs = r .1 ∙ size-records bs in
+    let m = deadlines-meet-six-and-seven s ds (w .1) in
+    let back : words (encoded ds) (count bs) ≡ ds =
+    words-encoded ds (count bs) l
+    (λ i h.
+    let k : i < size s = omega (arith, size-records bs) in
+    omega (arith, m .0 i (in-places (size s) i k) .1, r .0 .ranges i k .deadline))
     in
-    let same : length (written bs) ≡ length out = omega (arith, length-written bs, fit-length bs (length out) (t .0 .0)) in
-    rw (t .2) (check-accepts bs (written bs) .1 (rw same (t .0 .0), rw back (checker-agrees (records bs) zeros a)))
+    let same : length (encoded ds) ≡ length out = omega (arith, length-encoded ds, l, w .0 .1) in
+    rw (w .2)
+    (answered-check bs (encoded ds) (fits bs (encoded ds) (w .0 .0, same ∙ w .0 .1)) check.Accepted
+    (check-taken (checker.answer s (words (encoded ds) (count bs))) (rw back (checker-agrees s ds (w .1)))))

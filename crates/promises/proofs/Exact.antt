@@ -1,7 +1,7 @@
 -- Demand 3's second half: with the deadlines that the method gives, and asks that reach the executions, the core finishes
 -- every sub-job exactly on its deadline.
 use Prim.Native.Nat.{ℕ, _≤_, _<_}
-use mathlib.Core.Bool.{Bool, true, false, not}
+use mathlib.Core.Bool.{Bool, true, not}
 use mathlib.Core.List.{List, List·Memᴰ}
 use mathlib.Core.Logic.{inl, inr}
 use mathlib.Core.Path.{_≡_, sym, _∙_}
@@ -11,135 +11,108 @@ use lib.ListN.{length, getD}
 use lib.Seq.{ext-getD}
 use Rattle.lists.specs.Places.{places, InOrder}
 use Rattle.lists.proofs.Cases.{test, tests}
-use Rattle.lists.proofs.Members.{nodup-from, in-without, inorder-filter, places-in, in-places}
+use Rattle.lists.proofs.Members.{in-without, inorder-filter, places-in, in-places}
 use Rattle.lists.proofs.Choice.{Order}
-use Rattle.subjobs.specs.declared.Judgement.the-variants.{Passed}
-use Rattle.subjobs.specs.Sets.{Subjobs, size, job, subtask, release, execution, deadline, critical}
-use Rattle.subjobs.specs.Judging.{judgement}
-use Rattle.subjobs.proofs.Fit.{fit}
-use Rattle.rules.specs.Method.{inOrder, placed, method}
+use Rattle.subjobs.specs.Sets.{Subjobs, size, job, subtask, release, execution}
+use Rattle.subjobs.specs.Terms.{Terms, terms}
+use Rattle.subjobs.specs.Faults.{Fit}
+use Rattle.subjobs.proofs.Bounds.{lower-order}
+use Rattle.rules.specs.Method.{inOrder}
+use Rattle.rules.specs.Rules.{Accepts, over, place, Accepted}
 use Rattle.rules.proofs.Tails.{base-in}
-use Rattle.lists.proofs.Rearranged.{Same, same-sym, same-in}
-use Rattle.rules.specs.Rules.{lower, Accepts, over, place}
 use Rattle.rules.proofs.ReleaseOrder.{inorder-inOrder, nodup-inOrder, same-inOrder, inOrder-below, below-inOrder}
 use Rattle.rules.proofs.Rules.{Ones, ones-without, turn-step, same-accepts}
-use Rattle.rules.proofs.Obeys.{lower-order, method-placed}
 use Rattle.rules.proofs.Accepted.{accepted-falls}
-use Rattle.olda.proofs.Results.{passed-ones}
-use Rattle.ticks.specs.Runs.{sooner, owed, finish}
-use Rattle.ticks.specs.Runs as ticks
-use Rattle.ticks.proofs.Service.{served, served-is-active, served-most}
-use Rattle.ticks.proofs.Finishes.{finish-by, run-length}
-use Rattle.ticks.proofs.Turns.{below}
-use Rattle.ticks.proofs.Ticks.{finish-at}
-use Rattle.ticks.proofs.Keeps.{sooner-order, sooner-by}
-use Rattle.ticks.proofs.Alone.{served-alike, sooner-total}
-use Rattle.promises.proofs.Peel.{Peel, bare, peel, Ready, exact}
+use Rattle.lists.proofs.Rearranged.{same-sym}
+use Rattle.ticks.specs.Core.{served}
+use Rattle.ticks.specs.Runs.{due, servedBefore, load, finish, run}
+use Rattle.ticks.proofs.Service.{Counters, counters, served-is-active, served-most}
+use Rattle.ticks.proofs.Finishes.{finish-by}
+use Rattle.ticks.proofs.Ticks.{run-length, finish-at}
+use Rattle.ticks.proofs.Sooner.{sooner-order, sooner-by, sooner-total}
+use Rattle.ticks.proofs.Alone.{served-alike}
+use Rattle.promises.proofs.Peel.{Peel, bare, peel, core, Ready, exact}
 
 -- What the rules give is peeled in every order in which a smaller deadline comes before a greater: one of the base,
 -- placed at the best, has a greater deadline than all that are left.
-module _
-    (r c : ℕ → ℕ)
-    (lower : ℕ → ℕ → Bool)
-    (o : Order lower)
-    (dl z d : ℕ → ℕ)
-    (lt : ℕ → ℕ → Bool)
-    (before : (i j : ℕ) → d i < d j → lt i j ≡ true) where
-  peeled : {xs : List ℕ} → InOrder r xs → Ones c xs → Accepts r c lower dl z d xs → Peel r c lt d xs
+module _ (T : Terms) (o : Order (T .lower)) (d : ℕ → ℕ) (lt : ℕ → ℕ → Bool) (before : (i j : ℕ) → d i < d j → lt i j ≡ true) where
+  peeled : {xs : List ℕ} → InOrder (T .release) xs → Ones (T .execution) xs → Accepts T d xs → Peel T lt d xs
   peeled s ones over = bare
   peeled {xs} s ones (place b t h a) =
-      let w = turn-step r c xs s ones lower b (d b) t in
+      let w = turn-step T xs s ones t in
       peel b (
         w .0 .0,
         λ i m.
             test (eqb i b)
             (λ y. inl (omega tests))
-            (λ y. inr (before i b (accepted-falls r c lower dl z d o xs b ones t a (in-without b xs (base-in r c xs m) (λ q. omega tests))))),
+            (λ y.
+            inr
+            (before i b
+            (accepted-falls T o xs b ones t a (in-without b xs (base-in (T .release) (T .execution) xs m) (λ q. omega tests))))),
       )
-      (w .1) (peeled (inorder-filter r (λ i. not (eqb i b)) xs s) (ones-without c b xs ones) a)
+      (w .1) (peeled (inorder-filter (T .release) (λ i. not (eqb i b)) xs s) (ones-without (T .execution) b xs ones) a)
 
--- The finishes of a core on which everybody is owed the whole execution are what peeling gives, in any order of service.
+-- A set that passes 1 to 4, deadlines that the rules give it, and asks of at least the execution each.
 module _
-    (r c a : ℕ → ℕ)
-    (lt : ℕ → ℕ → Bool)
-    (n : ℕ)
-    (ord : Order lt)
-    (few : n ≤ 128)
-    (ones : (i : ℕ) → i < n → 1 ≤ c i)
-    (total : (i j : ℕ) → i < n → j < n → lt i j ≡ false → lt j i ≡ false → i ≡ j)
-    (whole : (i : ℕ) → i < n → c i ≤ a i) where
-  ready : Ready r c lt (inOrder r n)
+    (s : Subjobs)
+    (o : Bool)
+    (fit : Fit s o)
+    (ds asks : List ℕ)
+    (accepted : Accepted s (λ i. getD ds i 0))
+    (whole : (i : ℕ) → i < size s → execution s i ≤ getD asks i 0) where
+  abbrev d : ℕ → ℕ
+  d i = getD ds i 0
+
+  abbrev sorted : List ℕ
+  sorted = inOrder (release s) (places (size s))
+
+  below : {i : ℕ} → List·Memᴰ i sorted → i < size s
+  below m = inOrder-below (release s) (size s) m
+
+  ready : Ready (terms s) (servedBefore s ds) sorted
   ready =
+      let total = sooner-total d (job s) (subtask s) (size s) (fit .pairs) in
       record {
-        ones = λ i m. ones i (inOrder-below r n m);
-        sorted = inorder-inOrder r n;
-        nodup = nodup-inOrder r n;
-        small = λ i m. omega (arith, inOrder-below r n m);
-        total = λ i j p q. total i j (inOrder-below r n p) (inOrder-below r n q);
+        ones = λ i m. fit .ranges i (below m) .some;
+        sorted = inorder-inOrder (release s) (size s);
+        counters = record { small = λ i m. omega (arith, below m, fit .few); once = nodup-inOrder (release s) (size s) };
+        total = λ i j p q. total i j (in-places (size s) i (below p)) (in-places (size s) j (below q));
       }
 
-  -- The core does not hang on its list's order.
-  served-places : (t i : ℕ) → List·Memᴰ i (places n) → served r c lt (inOrder r n) t i ≡ served r (owed c a) lt (places n) t i
-  served-places =
-      served-alike r c (owed c a) lt ord (inOrder r n) (places n) (ready .total) (ready .small)
-      (λ j q. below-inOrder r n j (places-in n j q))
-      (λ j q. omega (arith, whole j (places-in n j q)))
-      (λ t b e. inl (in-places n b (inOrder-below r n (served-is-active r c lt (inOrder r n) t e .0))))
+  ends : Peel (terms s) (servedBefore s ds) d sorted
+  ends =
+      peeled (terms s) (lower-order s) d (servedBefore s ds) (sooner-by d (job s) (subtask s)) (inorder-inOrder (release s) (size s))
+      (ready .ones)
+      (same-accepts (terms s) (places (size s)) sorted (same-sym sorted (places (size s)) (same-inOrder (release s) (size s))) accepted)
 
-  pub finish-peeled :
-      (d : ℕ → ℕ) → Peel r c lt d (inOrder r n) → (i : ℕ) → i < n → finish r (owed c a) lt (places n) i ≡ d i
-  finish-peeled d p i h =
-      let m = in-places n i h in
-      let o = ones i h in
+  -- The core does not hang on its list's order, and owes each its whole execution.
+  alike : (t i : ℕ) → i < size s → served (core (terms s) (servedBefore s ds) sorted) t i ≡ served (load s ds asks) t i
+  alike t i h =
+      served-alike (core (terms s) (servedBefore s ds) sorted) (due s asks) (places (size s)) (counters s ds asks (fit .few))
+      (ready .counters) (sooner-order d (job s) (subtask s)) (ready .total)
+      (λ j q. below-inOrder (release s) (size s) j (places-in (size s) j q))
+      (λ j q. omega (arith, whole j (places-in (size s) j q)))
+      (λ u b e. inl (in-places (size s) b (below (served-is-active (core (terms s) (servedBefore s ds) sorted) u e .0))))
+      t i (in-places (size s) i h)
+
+  finish-is : (i : ℕ) → i < size s → finish (load s ds asks) i ≡ d i
+  finish-is i h =
+      let L = load s ds asks in
+      let K = counters s ds asks (fit .few) in
       let w = whole i h in
-      let f = finish r (owed c a) lt (places n) i in
-      let over = finish-by r (owed c a) lt (places n) (below n few) (nodup-from 0 n) i m (omega arith) in
-      let ends = exact r c lt d ord ready p i (below-inOrder r n i h) in
-      let same : (t : ℕ) → served r c lt (inOrder r n) t i ≡ served r (owed c a) lt (places n) t i = λ t. served-places t i m in
-      let most = served-most r (owed c a) lt (places n) (below n few) (d i) i in
+      let one = fit .ranges i h .some in
+      let f = finish L i in
+      let over = finish-by L K i (in-places (size s) i h) (omega arith) in
+      let on = exact (terms s) (servedBefore s ds) d (sooner-order d (job s) (subtask s)) ready ends i (below-inOrder (release s) (size s) i h) in
+      let most = served-most L K (d i) i in
       omega (
         arith,
-        over (d i) .1 (omega (arith, same (d i), ends (d i) .0 (omega arith))),
-        ends f .1 (omega (arith, same f, over f .0 (omega arith))),
+        over (d i) .1 (omega (arith, alike (d i) i h, on (d i) .0 (omega arith))),
+        on f .1 (omega (arith, alike f i h, over f .0 (omega arith))),
       )
 
-module _ (s : Subjobs) (o : Bool) (ds : List ℕ) (passed : judgement s o ≡ Passed) (accepted : method s ≡ placed ds) where
-  -- The deadlines of an accepted set are one for each sub-job, and are peeled in the order of service that they make.
-  placed-length : length ds ≡ size s
-  placed-length = method-placed s (passed-ones s o passed) ds .0 accepted .0
-
-  placed-peeled :
-      Peel (release s) (execution s) (sooner (λ i. getD ds i 0) (job s) (subtask s)) (λ i. getD ds i 0) (inOrder (release s) (size s))
-  placed-peeled =
-      let r = release s in
-      let n = size s in
-      let e : Same (inOrder r n) (places n) = same-inOrder r n in
-      peeled r (execution s) (lower (deadline s) (critical s)) (lower-order (deadline s) (critical s)) (deadline s) (critical s)
-      (λ i. getD ds i 0) (sooner (λ i. getD ds i 0) (job s) (subtask s))
-      (sooner-by (λ i. getD ds i 0) (job s) (subtask s))
-      (inorder-inOrder r n)
-      (λ i m. passed-ones s o passed i (same-in (inOrder r n) (places n) e m))
-      (same-accepts r (execution s) (lower (deadline s) (critical s)) (deadline s) (critical s) (λ i. getD ds i 0) (places n) (inOrder r n)
-      (same-sym (inOrder r n) (places n) e) (method-placed s (passed-ones s o passed) ds .0 accepted .1))
-
--- For a set that the assignment accepts, with the deadlines it gives, and for asks of at least the execution each: every
--- sub-job finishes exactly on its deadline.
-pub exactly-on-the-deadline :
-    (s : Subjobs) (o : Bool) (ds asks : List ℕ)
-    → judgement s o ≡ Passed
-    → method s ≡ placed ds
-    → ((i : ℕ) → i < size s → execution s i ≤ getD asks i 0)
-    → ticks.run s ds asks .finishes ≡ ds
-exactly-on-the-deadline s o ds asks passed accepted whole =
-    let f = fit s o passed in
-    let a : ℕ → ℕ = λ i. getD asks i 0 in
-    let d : ℕ → ℕ = λ i. getD ds i 0 in
-    let lt = sooner d (job s) (subtask s) in
-    let len = run-length (release s) (owed (execution s) a) lt (size s) in
-    ext-getD 0 (ticks.run s ds asks .finishes) ds (len ∙ sym (placed-length s o ds passed accepted))
-    (λ i h.
-    let k : i < size s = omega arith in
-    finish-at s ds asks i k
-    ∙ finish-peeled (release s) (execution s) a lt (size s) (sooner-order d (job s) (subtask s)) (f .few)
-    (λ j b. f .ranges j b .some)
-    (sooner-total (job s) (subtask s) d (size s) (f .pairs)) whole d (placed-peeled s o ds passed accepted) i k)
+  -- Every sub-job finishes exactly on its deadline.
+  pub exactly-on-the-deadline : length ds ≡ size s → run s ds asks .finishes ≡ ds
+  exactly-on-the-deadline l =
+      ext-getD 0 (run s ds asks .finishes) ds (run-length s ds asks ∙ sym l)
+      (λ i h. let k : i < size s = omega (arith, run-length s ds asks) in finish-at s ds asks i k ∙ finish-is i k)

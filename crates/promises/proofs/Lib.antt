@@ -1,11 +1,12 @@
-pub mod Table
-pub mod Assignment
-pub mod Core
-pub mod Judging
-pub mod Runs
 pub mod Peel
 pub mod Exact
+pub mod Faulted
+pub mod Assign
+pub mod Simulate
+pub mod Check
 pub mod Demand3
 pub mod Text
+pub mod Cases
 pub mod Door
 pub mod Outcomes
+pub mod Example

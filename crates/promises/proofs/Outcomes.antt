@@ -1,109 +1,144 @@
--- The proofs of what holds of every public entry.
+-- What holds of every entry holds: one outcome, nothing changed after a refusal, all written after acceptance.
 use Prim.Native.Nat.{ℕ}
+use mathlib.Core.Bool.{Bool, _&&_}
 use mathlib.Core.List.{List}
-use mathlib.Core.Path.{_≡_, refl, sym, _∙_, ap}
-use mathlib.Core.Bool.{cond, _&&_}
+use mathlib.Core.Path.{_≡_, refl, sym, ap, _∙_, subst}
 use native.Mathlib.Omega.{arith}
 use borrow.Author.Tests.{eqb-true}
 use lib.Dec.{eqb}
-use lib.ListN.{length, getD}
-use Rattle.subjobs.specs.declared.Reason.{Reason}
-use Rattle.subjobs.specs.declared.Judgement.{Judgement}
-use Rattle.subjobs.specs.Sets.{Subjobs, size, release}
-use Rattle.subjobs.specs.Judging.{judgement, ifPassed}
-use Rattle.olda.specs.declared.Answer.the-variants.{Refused, Placed}
-use Rattle.rules.specs.Method.{Outcome, placed, stuck, method}
-use Rattle.edf.specs.declared.Answer.the-variants.{Ran}
-use Rattle.edf.specs.declared.Totals.{Totals}
+use lib.IntN.{ℤ}
+use lib.ListN.{length}
 use Rattle.lists.proofs.Cases.{both}
-use Rattle.olda.proofs.Results.{never-refused, results-length}
-use Rattle.subjobs.proofs.Fit.{fit}
-use Rattle.ticks.proofs.Finishes.{run-length}
-use Rattle.promises.specs.Outcomes.{RefusedKeeps, WritesAll, OneOutcome}
-use Rattle.promises.specs.Assignment.{accepted}
-use Rattle.promises.proofs.Assignment.{accepted-placed}
-use Rattle.promises.proofs.Door.{door-keeps, door-writes-all}
-use Rattle.subjobs.specs.declared.Judgement.the-variants as judged
+use Rattle.subjobs.specs.Sets.{Subjobs, size}
+use Rattle.subjobs.specs.Faults.{Fit}
+use Rattle.rules.specs.Method.{placed}
+use Rattle.rules.proofs.Obeys.{method-placed}
+use Rattle.ticks.specs.Runs.{run}
+use Rattle.ticks.proofs.Ticks.{run-length}
 use Rattle.olda.specs.Answers as olda
-use Rattle.olda.specs.declared.Report as olda-report
-use Rattle.edf.specs.declared.Report as edf-report
-use Rattle.edf.specs.declared.Answer.the-variants as running
-use Rattle.subjobs.specs.declared.Reason.the-variants as reason
-use Rattle.ticks.specs.Runs as ticks
+use Rattle.edf.specs.declared.Totals.{Totals}
 use Rattle.edf.specs.Answers as edf
+use Rattle.charoktan.specs.Records.{records}
+use Rattle.charoktan.specs.Answers as door
+use Rattle.charoktan.proofs.Coding.{length-encoded}
+use Rattle.charoktan.proofs.Door.{size-records}
+use Rattle.promises.specs.Words.{accepted}
+use Rattle.promises.specs.Assign as assign
+use Rattle.promises.specs.Assign.{resultsFit, AssignSays}
+use Rattle.promises.specs.Simulate as simulate
+use Rattle.promises.specs.Simulate.{SimulateSays}
+use Rattle.promises.specs.Door.{room}
+use Rattle.promises.specs.Outcomes.{RefusedKeeps, WritesAll, OneAssign, OneSimulate, OneRun, OneCheck, OneTable, OneDoorAssign, OneDoorCheck, OneJudge, OneTell, OneRecord, OneAfterLine, OneWrite}
+use Rattle.promises.proofs.Faulted.{faulted, refused-number}
+use Rattle.promises.proofs.Assign.{fit-ones, assign-answers, assigned-rules, placed-answer}
+use Rattle.promises.proofs.Simulate.{simulate-answers}
+use Rattle.promises.proofs.Door.{door-keeps, door-placed}
 
-placing-keeps :
-    (s : Subjobs) (j : Judgement) (o : Outcome) (out : List ℕ) (r : Reason)
-    → ifPassed j (olda.outcome s o) Refused ≡ Refused r
-    → ifPassed j (olda.written o out) (λ q. out) ≡ out
-placing-keeps s (judged.Refused q) o out r e = refl
-placing-keeps s judged.Passed (stuck p m) out r e = refl
-placing-keeps s judged.Passed (placed ds) out r e = never-refused s (λ i. getD ds i 0) r e
+-- A refusal of the assignment leaves the list.
+assign-keeps : (s : Subjobs) (out : List ℕ) {v : List ℤ} {l : List ℕ} → AssignSays s out v l → (accepted v → ⊥) → l ≡ out
+assign-keeps s out (assign.faulty f) n = refl
+assign-keeps s out (assign.late f h) n = refl
+assign-keeps s out (assign.nothing f z) n = absurd (n refl)
+assign-keeps s out (assign.placed f l h r) n = absurd (n refl)
+
+-- A refusal of the simulator leaves list and totals.
+simulate-keeps :
+    (s : Subjobs) (ds asks fs : List ℕ) (t : Totals) {v : List ℤ} {l : List ℕ} {u : Totals}
+    → SimulateSays s ds asks fs t v l u
+    → (accepted v → ⊥)
+    → (l ≡ fs) × (u ≡ t)
+simulate-keeps s ds asks fs t (simulate.faulty f) n = (refl, refl)
+simulate-keeps s ds asks fs t (simulate.above f h) n = (refl, refl)
+simulate-keeps s ds asks fs t (simulate.ran f b i) n = absurd (n refl)
+
+assign-writes :
+    (s : Subjobs) (out old : List ℕ)
+    → accepted (olda.values (olda.answer s (length out)))
+    → length old ≡ length out
+    → (olda.results s out ≡ olda.results s old) × (length (olda.results s out) ≡ length out)
+assign-writes s out old a l =
+    let ds = olda.results s out in
+    let w = assigned-rules s ds (out, a, refl) in
+    let f : Fit s (resultsFit s old) = rw l (w .0) in
+    let q = placed-answer s old f ds (method-placed s (fit-ones s (resultsFit s old) f) ds .1 (w .1, w .2)) in
+    (sym (q .1), w .1 ∙ sym (eqb-true _ _ (w .0 .lengths .further)))
+
+simulate-writes :
+    (s : Subjobs) (ds asks fs old : List ℕ) (t : Totals)
+    → accepted (edf.values (edf.answer s ds asks (length fs) t))
+    → length old ≡ length fs
+    → (edf.finishes s ds asks fs t ≡ edf.finishes s ds asks old t) × (length (edf.finishes s ds asks fs t) ≡ length fs)
+simulate-writes s ds asks fs old t a l =
+    let w = ran (simulate-answers s ds asks fs t .0) a in
+    let w′ = ran (simulate-answers s ds asks old t .0) (rw l a) in
+    let n = eqb-true _ _ (both {a = eqb (length ds) (size s) && eqb (length asks) (size s)} {b = eqb (length fs) (size s)} (w .1 .lengths .further) .1) in
+    (w .0 ∙ sym (w′ .0), ap length (w .0) ∙ run-length s ds asks ∙ sym n)
+  where
+    ran :
+        {gs : List ℕ} {v : List ℤ} {l : List ℕ} {u : Totals}
+        → SimulateSays s ds asks gs t v l u
+        → accepted v
+        → (l ≡ run s ds asks .finishes) × Fit s (edf.furtherLists s ds asks (length gs))
+    ran {gs} (simulate.faulty f) h =
+        let w = faulted s (edf.furtherLists s ds asks (length gs)) f in absurd (refused-number (w .0) (subst accepted (w .2) h))
+    ran (simulate.above f b) h = let z : _≡_ {A = ℕ} 8 0 = cc in absurd (omega arith)
+    ran (simulate.ran f b i) h = (refl, f)
+
+door-writes :
+    (bs out old : List ℕ)
+    → door.assigned bs (length out) ≡ 0
+    → length old ≡ length out
+    → (door.assignedBytes bs out ≡ door.assignedBytes bs old) × (length (door.assignedBytes bs out) ≡ length out)
+door-writes bs out old z l =
+    let a = door-placed bs out z in
+    let b = door-placed bs old (rw l z) in
+    let ds = olda.results (records bs) (room bs) in (
+      a .2 ∙ sym (b .2),
+      omega (arith, ap length (a .2), length-encoded ds, assigned-rules (records bs) ds (a .1) .1, size-records bs, a .0 .1),
+    )
 
 pub refused-keeps : RefusedKeeps
-unfolding olda.answer olda.results edf.finishes edf.totals
-refused-keeps =
-    (λ s out r e. placing-keeps s (judgement s (eqb (length out) (size s))) (method s) out r e, λ s ds asks fs t r e. (rw e, rw e), door-keeps)
-
--- An accepted set's result list is what the method placed, whatever the list held.
-placed-alike :
-    (s : Subjobs) (out old : List ℕ) (r : olda-report.Report)
-    → olda.answer s (length out) ≡ Placed r
-    → length old ≡ length out
-    → olda.results s out ≡ olda.results s old
-placed-alike s out old r e l =
-    let a = accepted-placed s out (ap accepted e) in
-    let q : olda.answer s (length old) ≡ Placed r = rw l e in
-    let b = accepted-placed s old (ap accepted q) in
-    cc
-
--- A run that was accepted passed refusals 1 to 4, with a list of finishes as long as the set.
-ran-length :
-    (s : Subjobs) (ds asks : List ℕ) (n : ℕ) (t : Totals) (r : edf-report.Report)
-    → edf.answer s ds asks n t ≡ Ran r
-    → n ≡ size s
-unfolding edf.answer
-ran-length s ds asks n t r e = by-judgement (judgement s (edf.furtherLists s ds asks n)) refl e
-  where
-    by-judgement :
-        (j : Judgement)
-        → judgement s (edf.furtherLists s ds asks n) ≡ j
-        → ifPassed j
-        (cond (edf.above (edf.added (ticks.run s ds asks) t)) (running.Refused reason.Totals) (Ran (record { end = ticks.run s ds asks .end })))
-        running.Refused
-        ≡ Ran r
-        → n ≡ size s
-    by-judgement (judged.Refused q) p h = let z : _≡_ {A = ℕ} 0 1 = cc in absurd (omega arith)
-    by-judgement judged.Passed p h =
-        eqb-true n (size s)
-        (both {a = eqb (length ds) (size s) && eqb (length asks) (size s)} {b = eqb n (size s)}
-        (fit s (edf.furtherLists s ds asks n) p .lengths .further) .1)
+refused-keeps = (
+  λ s out n. assign-keeps s out (assign-answers s out .0) n,
+  λ s ds asks fs t n. simulate-keeps s ds asks fs t (simulate-answers s ds asks fs t .0) n,
+  λ bs out z. door-keeps bs out z,
+)
 
 pub writes-all : WritesAll
-unfolding edf.finishes
-writes-all = (
-  λ s out old r e l. (placed-alike s out old r e l, results-length s out),
-  λ s ds asks fs old t r e l. (
-    rw (e, l, e),
-    rw e
-        (run-length (release s) (ticks.due s asks) (ticks.servedBefore s ds) (size s)
-        ∙ sym (ran-length s ds asks (length fs) t r e)),
-  ),
-  door-writes-all,
-)
+writes-all = (assign-writes, simulate-writes, door-writes)
 
--- The one law, for each entry.
-one : {A : Type 0} {stated a b : A} → a ≡ stated → b ≡ stated → a ≡ b
-one p q = p ∙ sym q
+pub one-assign : OneAssign
+one-assign s out new other r q h k = (h .0 ∙ sym (k .0), h .1 ∙ sym (k .1))
 
-pub one-outcome : OneOutcome
-one-outcome = (
-  λ s others r q p u. one p u,
-  λ s out new other r q p u. (one (p .0) (u .0), one (p .1) (u .1)),
-  λ s ds asks fs new other t r q p u. (one (p .0) (u .0), one (p .1) (u .1)),
-  λ s ds asks fs new other t u v r q p w. (one (p .0) (w .0), one (p .1) (w .1), one (p .2) (w .2)),
-  λ s ds r q p u. one p u,
-  λ text out new other r q p u. (one (p .0) (u .0), one (p .1) (u .1)),
-  λ bs out new other r q p u. (one (p .0) (u .0), one (p .1) (u .1)),
-  λ bs ds r q p u. one p u,
-)
+pub one-simulate : OneSimulate
+one-simulate s ds asks fs new other t r q h k = (h .gives ∙ sym (k .gives), h .writes ∙ sym (k .writes))
+
+pub one-run : OneRun
+one-run s ds asks fs new other t u v r q h k = (h .gives ∙ sym (k .gives), h .adds ∙ sym (k .adds), h .writes ∙ sym (k .writes))
+
+pub one-check : OneCheck
+one-check s ds r q h k = h ∙ sym k
+
+pub one-table : OneTable
+one-table text out new other r q h k = (h .count ∙ sym (k .count), h .bytes ∙ sym (k .bytes))
+
+pub one-door-assign : OneDoorAssign
+one-door-assign bs out new other r q h k = (h .0 ∙ sym (k .0), h .1 ∙ sym (k .1))
+
+pub one-door-check : OneDoorCheck
+one-door-check bs ds r q h k = h ∙ sym k
+
+pub one-judge : OneJudge
+one-judge s others r q h k = h ∙ sym k
+
+pub one-tell : OneTell
+one-tell reason r q h k = h ∙ sym k
+
+pub one-record : OneRecord
+one-record text at out new other r q h k = (h .end ∙ sym (k .end), h .values ∙ sym (k .values))
+
+pub one-after-line : OneAfterLine
+one-after-line w text r q h k = h ∙ sym k
+
+pub one-write : OneWrite
+one-write out at word new other r q h k = (h .next ∙ sym (k .next), h .text ∙ sym (k .text))

@@ -1,9 +1,10 @@
-pub mod Table
-pub mod Assignment
-pub mod Core
-pub mod Judging
-pub mod Runs
+pub mod Words
 pub mod Demand3
+pub mod Assign
+pub mod Simulate
+pub mod Check
 pub mod Text
-pub mod Outcomes
+pub mod Example
 pub mod Door
+pub mod Outcomes
+pub mod Cases

@@ -7,7 +7,7 @@ use lib.ListN.{length, replicate}
 use Rattle.lists.specs.Places.{from, filter, weight}
 use Rattle.lists.specs.Order.{ahead, choose}
 use Rattle.subjobs.specs.Sets.{Subjobs, subjobs}
-use Rattle.rules.specs.Method.{insert, inOrder, best, base, Outcome, placed, stuck, steps, method}
+use Rattle.rules.specs.Method.{insert, arranged, best, base, placed, stuck, steps, method}
 
 -- jobs 1, 2, .. with these releases, executions, deadlines and critical times
 abbrev set : (rs cs ds zs : List ℕ) → Subjobs
@@ -21,5 +21,5 @@ pub edges :
     × (method (set (0 ∷ []) (1 ∷ []) (3 ∷ []) (5 ∷ [])) ≡ stuck 0 1)
     × (method (set (0 ∷ []) (1 ∷ []) (1 ∷ []) (0 ∷ [])) ≡ placed (1 ∷ []))
     × (method (set (0 ∷ 1 ∷ []) (3 ∷ 1 ∷ []) (3 ∷ 2 ∷ []) (0 ∷ 0 ∷ [])) ≡ stuck 0 4)
-unfolding from filter weight ahead choose insert inOrder best base steps method
+unfolding from filter weight ahead choose insert arranged best base steps method
 edges = (refl, refl, refl, refl, refl)

@@ -26,6 +26,7 @@ module _ (r c : ℕ → ℕ) where
       (λ q. rw (q .1) (split (base-cases r c x (filter U xs)) (λ b. omega (arith, weight-filter c U xs)) (λ b. omega arith)))
       (λ q. rw (q .1) (omega arith))
 
+  -- With one of the base taken out, the best falls.
   pub falls : (xs : List ℕ) {b : ℕ} → List·Memᴰ b (base r c xs) → 1 ≤ c b → best r c (without b xs) < best r c xs
   falls [] m o = in-nil (rw (base-nil r c) at m)
   falls (x ∷ xs) {b} m o =

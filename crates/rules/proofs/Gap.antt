@@ -2,18 +2,18 @@
 -- earlier, so no service of the base is done before its completion; and those released before the base have room until
 -- it starts.
 use Prim.Native.Nat.{ℕ, _+_, _-_, _≤_, _<_}
-use mathlib.Core.Bool.{Bool, true, false, not, _&&_}
+use mathlib.Core.Bool.{Bool, true, false, cond, not, _&&_}
 use mathlib.Core.List.{List, [], _∷_, List·Memᴰ}
 use mathlib.Core.Path.{_≡_, ap}
 use native.Mathlib.Omega.{arith}
 use borrow.Author.Tests.{leb-true, le-leb, lt-leb, not-true}
 use lib.Dec.{ltb, leb}
 use Rattle.lists.specs.Places.{filter, weight, least, InOrder}
-use Rattle.lists.proofs.Cases.{split, test, clash, tests, tested, both}
-use Rattle.lists.proofs.Members.{or-filled, filter-cases, filter-nil, filter-in, filled}
-use Rattle.lists.proofs.Sums.{weight-nil, weight-cons, weight-le, weight-filter, weight-parts, least-most}
+use Rattle.lists.proofs.Cases.{split, test, tests, tested, both}
+use Rattle.lists.proofs.Members.{or-filled, filter-in, filled}
+use Rattle.lists.proofs.Sums.{weight-nil, weight-le, weight-filter, weight-parts, weight-picked, least-most}
 use Rattle.rules.specs.Method.{best, base}
-use Rattle.rules.proofs.Tails.{base-nil, base-cases, t1-le, late-room, attained, latest, base-threshold}
+use Rattle.rules.proofs.Tails.{weight-base, t1-le, late-room, attained, latest, base-threshold}
 
 -- Two subsets that have nobody in common, inside a third.
 weight-apart :
@@ -21,40 +21,22 @@ weight-apart :
     → ((i : ℕ) → U i ≡ true → (X i ≡ false) × (Y i ≡ true))
     → ((i : ℕ) → X i ≡ true → Y i ≡ true)
     → weight f (filter U xs) + weight f (filter X xs) ≤ weight f (filter Y xs)
-weight-apart f U X Y [] h k =
-    omega (arith, ap (weight f) (filter-nil U), ap (weight f) (filter-nil X), weight-nil f)
+unfolding filter weight
+weight-apart f U X Y [] h k = omega arith
 weight-apart f U X Y (x ∷ xs) h k =
     let ih = weight-apart f U X Y xs h k in
-    let u = weight-cons f x (filter U xs) in
-    let v = weight-cons f x (filter X xs) in
-    let y = weight-cons f x (filter Y xs) in
-    split (filter-cases Y x xs)
-    (λ w.
-    rw (w .1)
-    (split (filter-cases U x xs)
-    (λ p.
-    rw (p .1)
-    (split (filter-cases X x xs) (λ q. clash (q .0) (h x (p .0) .0)) (λ q. rw (q .1) (omega arith))))
-    (λ p. rw (p .1) (split (filter-cases X x xs) (λ q. rw (q .1) (omega arith)) (λ q. rw (q .1) (omega arith))))))
-    (λ w.
-    rw (w .1)
-    (split (filter-cases U x xs)
-    (λ p. clash (h x (p .0) .1) (w .0))
-    (λ p. rw (p .1) (split (filter-cases X x xs) (λ q. clash (k x (q .0)) (w .0)) (λ q. rw (q .1) ih)))))
+    test (U x)
+    (λ u. rw (u, h x u .0, h x u .1) (omega arith))
+    (λ u.
+    test (X x)
+    (λ v. rw (u, v, k x v) (omega arith))
+    (λ v. test (Y x) (λ y. rw (u, v, y) (omega arith)) (λ y. rw (u, v, y) ih)))
 
 module _ (r c : ℕ → ℕ) where
   -- A subset of the base weighs no more than that subset of all.
   weight-of-base : (f : ℕ → ℕ) (U : ℕ → Bool) (xs : List ℕ) → weight f (filter U (base r c xs)) ≤ weight f (filter U xs)
-  weight-of-base f U [] = omega (arith, ap (λ (ys : List ℕ). weight f (filter U ys)) (base-nil r c))
-  weight-of-base f U (x ∷ xs) =
-      let ih = weight-of-base f U xs in
-      split (base-cases r c x xs)
-      (λ b. omega (arith, ap (λ (ys : List ℕ). weight f (filter U ys)) (b .1)))
-      (λ b.
-      let e = ap (λ (ys : List ℕ). weight f (filter U ys)) (b .1) in
-      split (filter-cases U x xs)
-      (λ q. omega (arith, ap (weight f) (q .1), weight-cons f x (filter U xs)))
-      (λ q. omega (arith, ap (weight f) (q .1))))
+  weight-of-base f U xs =
+      omega (arith, weight-picked f U (base r c xs), weight-picked f U xs, weight-base r c (λ i. cond (U i) (f i) 0) xs)
 
   module _ (xs : List ℕ) (sorted : InOrder r xs) where
     -- What is released at or after a moment that lies between the base's start and the best completes before the best.

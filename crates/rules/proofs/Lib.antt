@@ -2,8 +2,11 @@ pub mod Tails
 pub mod Falls
 pub mod Gap
 pub mod ReleaseOrder
+pub mod Renaming
 pub mod Rules
 pub mod Obeys
+pub mod Remaining
 pub mod Accepted
+pub mod Slack
 pub mod AllPlaces
 pub mod Edges

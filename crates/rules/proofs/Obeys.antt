@@ -1,197 +1,188 @@
--- What the method gives is what the rules give: step by step on a list in release order, and then for a whole set,
--- whose places may stand in any order.
+-- What the method gives is what the rules give, and nothing else: step by step on a list in release order, then for any
+-- list of places, then for a set.
 use Prim.Native.Nat.{ℕ, zero, suc, _+_, _≤_, _<_}
-use mathlib.Core.Bool.{Bool, cond, not}
+use mathlib.Core.Bool.{cond, not}
 use mathlib.Core.List.{List, [], List·Memᴰ}
 use mathlib.Core.Logic.{_↔_}
 use mathlib.Core.Option.{some}
 use mathlib.Core.Path.{_≡_, refl, sym, ap, _∙_}
 use native.Mathlib.Omega.{arith}
 use borrow.Author.Tests.{leb-true, leb-false}
-use lib.Dec.{leb, eqb}
-use lib.ListN.{length, getD, set, replicate, length-set, length-replicate}
+use lib.Dec.{leb, ltb, eqb}
+use lib.ListN.{length, getD, set, replicate, length-set, length-replicate, List·getD-eq-default}
 use lib.Seq.{getD-set-same, getD-set-other, ext-getD}
 use Rattle.lists.specs.Places.{places, without, weight, InOrder}
-use Rattle.lists.specs.Order.{choose, reversed, by, Last}
+use Rattle.lists.specs.Order.{choose, reversed, Last}
 use Rattle.lists.proofs.Cases.{split, test, tests}
-use Rattle.lists.proofs.Members.{filled, or-filled, without-in, inorder-filter, from-in, in-from}
-use Rattle.lists.proofs.Sums.{weight-in, weight-out, count-from}
-use Rattle.lists.proofs.Choice.{Order, Total, by-order, lex-order, lex-total, last-chosen}
-use Rattle.subjobs.specs.Sets.{Subjobs, size, release, execution, deadline, critical, byBound}
-use Rattle.rules.specs.Method.{inOrder, best, base, Outcome, placed, stuck, steps, method}
-use Rattle.rules.specs.Rules.{lower, Accepts, over, place, Refuses, here, later}
+use Rattle.lists.proofs.Members.{filled, or-filled, or-in, without-in, inorder-filter, in-places, places-in}
+use Rattle.lists.proofs.Sums.{weight-in, weight-out, weight-length}
+use Rattle.lists.proofs.Choice.{Order, Total, last-chosen}
+use Rattle.subjobs.specs.Sets.{Subjobs, size, execution}
+use Rattle.subjobs.specs.Terms.{Terms, terms}
+use Rattle.subjobs.proofs.Bounds.{lower-order, lower-total}
+use Rattle.rules.specs.Method.{inOrder, Outcome, placed, stuck, steps, assigning, method}
+use Rattle.rules.specs.Rules.{Accepts, over, place, Refuses, here, later, Accepted, RefusedAt}
 use Rattle.rules.proofs.Tails.{base-nil, base-filled, base-in}
-use Rattle.lists.proofs.Rearranged.{Same, same-in}
-use Rattle.rules.proofs.ReleaseOrder.{inorder-inOrder, same-inOrder}
-use Rattle.rules.proofs.Rules.{Ones, ones-without, step-turn, same-accepts, same-refuses, one-deadline, not-both, one-refusal}
-use Rattle.subjobs.proofs.Bounds.{bound-order}
+use Rattle.rules.proofs.ReleaseOrder.{inorder-arranged, same-arranged, arranged-in}
+use Rattle.rules.proofs.Rules.{Ones, ones-without, bestOf, baseOf, step-turn, same-accepts, same-refuses, one-deadline, not-both, one-refusal}
 
-module _ (r c : ℕ → ℕ) (lt : ℕ → ℕ → Bool) (dl z : ℕ → ℕ) where
-  -- An outcome of the method that the rules allow for what remains; a place that does not remain keeps its deadline.
+module _ (T : Terms) where
+  -- An outcome that the rules allow for the places xs; a place that is not of them keeps its deadline.
   abbrev pub Obeys : List ℕ → List ℕ → Outcome → Type 0
   Obeys xs ds (placed es) =
-      Accepts r c lt dl z (λ i. getD es i 0) xs
+      Accepts T (λ i. getD es i 0) xs
       × (length es ≡ length ds)
       × ((i : ℕ) → (List·Memᴰ i xs → ⊥) → getD es i 0 ≡ getD ds i 0)
-  Obeys xs ds (stuck p m) = Refuses r c lt dl z p m xs
+  Obeys xs ds (stuck p m) = Refuses T p m xs
 
-  done : (n : ℕ) (xs ds : List ℕ) → xs ≡ [] → steps r c lt dl z n xs ds ≡ placed ds
+  done : (n : ℕ) (xs ds : List ℕ) → xs ≡ [] → steps T n xs ds ≡ placed ds
   unfolding steps choose
   done zero xs ds e = refl
-  done (suc n) xs ds e = rw (e, base-nil r c)
+  done (suc n) xs ds e = rw (e, base-nil (T .release) (T .execution))
 
-  ended : (n : ℕ) (xs ds : List ℕ) → xs ≡ [] → Obeys xs ds (steps r c lt dl z n xs ds)
+  ended : (n : ℕ) (xs ds : List ℕ) → xs ≡ [] → Obeys xs ds (steps T n xs ds)
   ended n xs ds e = rw (done n xs ds e) (rw e over, refl, λ i m. refl)
 
   step :
       (n : ℕ) (xs ds : List ℕ) (b : ℕ)
-      → choose (reversed lt) (base r c xs) ≡ some b
-      → steps r c lt dl z (suc n) xs ds
-      ≡ cond (leb (best r c xs + z b) (dl b)) (steps r c lt dl z n (without b xs) (set ds b (best r c xs))) (stuck b (best r c xs))
+      → choose (reversed (T .lower)) (baseOf T xs) ≡ some b
+      → steps T (suc n) xs ds
+      ≡ cond (leb (bestOf T xs + T .withheld b) (T .deadline b)) (steps T n (without b xs) (set ds b (bestOf T xs))) (stuck b (bestOf T xs))
   unfolding steps
   step n xs ds b e = rw e
 
-  module _ (o : Order lt) where
-    more :
-        (xs ds : List ℕ) (b : ℕ)
-        → InOrder r xs
-        → Ones c xs
-        → Last lt (base r c xs) b
-        → b < length ds
-        → best r c xs + z b ≤ dl b
-        → (w : Outcome)
-        → Obeys (without b xs) (set ds b (best r c xs)) w
-        → Obeys xs ds w
-    more xs ds b s ones l lim h (placed es) a =
-        let e : getD es b 0 ≡ best r c xs =
-        a .2 b (λ m. without-in b xs m .1 refl) ∙ getD-set-same ds b (best r c xs) 0 lim
-        in (
-          place b (step-turn r c xs s ones lt b (getD es b 0) l e) (omega arith) (a .0),
-          a .1 ∙ length-set ds b (best r c xs),
-          λ i n.
-              a .2 i (λ m. n (without-in b xs m .0))
-              ∙ getD-set-other ds b i (best r c xs) 0 (λ q. n (rw q (base-in r c xs (l .0)))),
-        )
-    more xs ds b s ones l lim h (stuck p m) a = later b (best r c xs) (step-turn r c xs s ones lt b (best r c xs) l refl) h a
+  more :
+      (xs ds : List ℕ) (b : ℕ)
+      → InOrder (T .release) xs
+      → Ones (T .execution) xs
+      → Last (T .lower) (baseOf T xs) b
+      → b < length ds
+      → bestOf T xs + T .withheld b ≤ T .deadline b
+      → (w : Outcome)
+      → Obeys (without b xs) (set ds b (bestOf T xs)) w
+      → Obeys xs ds w
+  more xs ds b s ones l lim h (placed es) a =
+      let e : getD es b 0 ≡ bestOf T xs =
+      a .2 b (λ m. without-in b xs m .1 refl) ∙ getD-set-same ds b (bestOf T xs) 0 lim
+      in (
+        place b (step-turn T xs s ones l e) (omega arith) (a .0),
+        a .1 ∙ length-set ds b (bestOf T xs),
+        λ i n.
+            a .2 i (λ m. n (without-in b xs m .0))
+            ∙ getD-set-other ds b i (bestOf T xs) 0 (λ q. n (rw q (base-in (T .release) (T .execution) xs (l .0)))),
+      )
+  more xs ds b s ones l lim h (stuck p m) a = later b (bestOf T xs) (step-turn T xs s ones l refl) h a
 
+  module _ (o : Order (T .lower)) where
+    -- On a list in release order: what the steps give, the rules allow.
     pub obeys :
         (n : ℕ) (xs ds : List ℕ)
-        → InOrder r xs
-        → Ones c xs
-        → Total lt xs
+        → InOrder (T .release) xs
+        → Ones (T .execution) xs
+        → Total (T .lower) xs
         → weight (λ i. 1) xs ≤ n
         → ((i : ℕ) → List·Memᴰ i xs → i < length ds)
-        → Obeys xs ds (steps r c lt dl z n xs ds)
+        → Obeys xs ds (steps T n xs ds)
     obeys zero xs ds s ones tot fuel lim =
         split (or-filled xs) (λ e. ended zero xs ds e) (λ f. absurd (omega (arith, weight-in (λ i. 1) xs (filled xs f .1))))
     obeys (suc n) xs ds s ones tot fuel lim =
         split (or-filled xs)
         (λ e. ended (suc n) xs ds e)
         (λ f.
-        let w = last-chosen lt o (base r c xs) (λ i j p q. tot i j (base-in r c xs p) (base-in r c xs q)) (λ e. f (base-filled r c xs ones e)) in
+        let of : (i : ℕ) → List·Memᴰ i (baseOf T xs) → List·Memᴰ i xs = λ i m. base-in (T .release) (T .execution) xs m in
+        let w =
+        last-chosen (T .lower) o (baseOf T xs) (λ i j p q. tot i j (of i p) (of j q))
+        (λ e. f (base-filled (T .release) (T .execution) xs ones e))
+        in
         let b : ℕ = w .0 in
-        let m = base-in r c xs (w .1 .0 .0) in
+        let m = of b (w .1 .0 .0) in
         rw (step n xs ds b (w .1 .1))
-        (test (leb (best r c xs + z b) (dl b))
+        (test (leb (bestOf T xs + T .withheld b) (T .deadline b))
         (λ y.
         rw y
-        (more xs ds b s ones (w .1 .0) (lim b m) (leb-true (best r c xs + z b) (dl b) y)
-        (steps r c lt dl z n (without b xs) (set ds b (best r c xs)))
-        (obeys n (without b xs) (set ds b (best r c xs)) (inorder-filter r (λ i. not (eqb i b)) xs s) (ones-without c b xs ones)
-        (λ i j p q. tot i j (without-in b xs p .0) (without-in b xs q .0))
+        (more xs ds b s ones (w .1 .0) (lim b m) (leb-true (bestOf T xs + T .withheld b) (T .deadline b) y)
+        (steps T n (without b xs) (set ds b (bestOf T xs)))
+        (obeys n (without b xs) (set ds b (bestOf T xs)) (inorder-filter (T .release) (λ i. not (eqb i b)) xs s)
+        (ones-without (T .execution) b xs ones) (λ i j p q. tot i j (without-in b xs p .0) (without-in b xs q .0))
         (omega (arith, weight-out (λ i. 1) b xs m))
-        (λ i q. omega (arith, lim i (without-in b xs q .0), length-set ds b (best r c xs))))))
-        (λ y. rw y (here (step-turn r c xs s ones lt b (best r c xs) (w .1 .0) refl) (leb-false (best r c xs + z b) (dl b) y)))))
+        (λ i q. omega (arith, lim i (without-in b xs q .0), length-set ds b (bestOf T xs))))))
+        (λ y.
+        rw y
+        (here (step-turn T xs s ones (w .1 .0) refl) (leb-false (bestOf T xs + T .withheld b) (T .deadline b) y)))))
 
--- The order of the base sub-job: by upper bounds, then by place. It parts any two.
-pub lower-order : (dl z : ℕ → ℕ) → Order (lower dl z)
-lower-order dl z = lex-order (byBound dl z) (by (λ i. i)) (bound-order dl z) (by-order (λ i. i))
+    module _ (xs ds : List ℕ) (ones : Ones (T .execution) xs) where
+      -- Only one outcome is allowed.
+      obeys-one : (w w′ : Outcome) → Obeys xs ds w → Obeys xs ds w′ → w ≡ w′
+      obeys-one (placed es) (placed es′) a b =
+          ap placed
+          (ext-getD 0 es es′ (a .1 ∙ sym (b .1))
+          (λ i h.
+          split (or-in i xs) (λ m. one-deadline T o xs ones (a .0) (b .0) m) (λ n. a .2 i n ∙ sym (b .2 i n))))
+      obeys-one (placed es) (stuck p m) a f = absurd (not-both T o xs ones (a .0) f)
+      obeys-one (stuck p m) (placed es) f a = absurd (not-both T o xs ones (a .0) f)
+      obeys-one (stuck p m) (stuck p′ m′) f g = let e = one-refusal T o xs ones f g in rw (e .0, e .1)
 
-pub lower-total : (dl z : ℕ → ℕ) (xs : List ℕ) → Total (lower dl z) xs
-lower-total dl z xs i j a b p q =
-    let w = lex-total (byBound dl z) (by (λ k. k)) (bound-order dl z) i j p q in
-    let lo = w .2 in
-    let hi = w .3 in
-    omega tests
-
--- For all n sub-jobs: the method puts them into release order, the rules take them in any.
-abbrev pub whole : (r c : ℕ → ℕ) → (ℕ → ℕ → Bool) → (dl z : ℕ → ℕ) → ℕ → Outcome
-whole r c lt dl z n = steps r c lt dl z n (inOrder r n) (replicate n 0)
-
-module _ (r c : ℕ → ℕ) (lt : ℕ → ℕ → Bool) (o : Order lt) (dl z : ℕ → ℕ) (n : ℕ) where
-  module _ (tot : Total lt (places n)) (ones : Ones c (places n)) where
-    -- What the method gives, the rules allow: of the places in any order, and a deadline for each.
-    whole-obeys : Obeys r c lt dl z (places n) (replicate n 0) (whole r c lt dl z n)
-    whole-obeys =
-        let e : Same (inOrder r n) (places n) = same-inOrder r n in
-        let m : (i : ℕ) → List·Memᴰ i (inOrder r n) → List·Memᴰ i (places n) = λ i q. same-in (inOrder r n) (places n) e q in
-        any-order (whole r c lt dl z n)
-        (obeys r c lt dl z o n (inOrder r n) (replicate n 0) (inorder-inOrder r n) (λ i q. ones i (m i q))
-        (λ i j p q. tot i j (m i p) (m j q)) (omega (arith, e (λ i. 1), count-from 0 n))
-        (λ i q. let h = from-in 0 n (m i q) in omega (arith, length-replicate {A = ℕ} n 0)))
-      where
-        any-order : (w : Outcome) → Obeys r c lt dl z (inOrder r n) (replicate n 0) w → Obeys r c lt dl z (places n) (replicate n 0) w
-        any-order (placed es) a = (
-          same-accepts r c lt dl z (λ i. getD es i 0) (inOrder r n) (places n) (same-inOrder r n) (a .0),
-          a .1,
-          λ i m. a .2 i (λ q. m (same-in (inOrder r n) (places n) (same-inOrder r n) q)),
-        )
-        any-order (stuck p m) f = same-refuses r c lt dl z p m (inOrder r n) (places n) (same-inOrder r n) f
-
-    -- What the rules allow, the method gives.
-    is-placed :
-        (w : Outcome)
-        → Obeys r c lt dl z (places n) (replicate n 0) w
-        → (ds : List ℕ)
-        → length ds ≡ n
-        → Accepts r c lt dl z (λ i. getD ds i 0) (places n)
-        → w ≡ placed ds
-    is-placed (placed es) a ds l b =
-        let k : length es ≡ n = a .1 ∙ length-replicate {A = ℕ} n 0 in
-        ap placed
-        (ext-getD 0 es ds (k ∙ sym l)
-        (λ i h.
-        one-deadline r c lt o dl z (λ j. getD es j 0) (λ j. getD ds j 0) (places n) ones (a .0) b
-        (in-from 0 n (omega arith) (omega arith))))
-    is-placed (stuck p m) f ds l b = absurd (not-both r c lt o dl z (λ i. getD ds i 0) p m (places n) ones b f)
-
-    is-stuck :
-        (w : Outcome)
-        → Obeys r c lt dl z (places n) (replicate n 0) w
-        → (p m : ℕ)
-        → Refuses r c lt dl z p m (places n)
-        → w ≡ stuck p m
-    is-stuck (placed es) a p m f = absurd (not-both r c lt o dl z (λ i. getD es i 0) p m (places n) ones (a .0) f)
-    is-stuck (stuck q k) g p m f = let e = one-refusal r c lt o dl z q k p m (places n) ones g f in rw (e .0, e .1)
-
-    pub whole-placed :
-        (ds : List ℕ)
-        → (whole r c lt dl z n ≡ placed ds) ↔ ((length ds ≡ n) × Accepts r c lt dl z (λ i. getD ds i 0) (places n))
-    whole-placed ds = (
-      λ e. let a = rw e at whole-obeys in (a .1 ∙ length-replicate {A = ℕ} n 0, a .0),
-      λ a. is-placed (whole r c lt dl z n) whole-obeys ds (a .0) (a .1),
-    )
-
-    pub whole-stuck : (p m : ℕ) → (whole r c lt dl z n ≡ stuck p m) ↔ Refuses r c lt dl z p m (places n)
-    whole-stuck p m = (λ e. rw e at whole-obeys, λ f. is-stuck (whole r c lt dl z n) whole-obeys p m f)
+      -- On any list of places: the method gives an outcome exactly if the rules allow it.
+      pub assigning-is :
+          Total (T .lower) xs
+          → ((i : ℕ) → List·Memᴰ i xs → i < length ds)
+          → (w : Outcome)
+          → (assigning T xs ds ≡ w) ↔ Obeys xs ds w
+      assigning-is tot lim w =
+          let ys : List ℕ = inOrder (T .release) xs in
+          let e = same-arranged (T .release) xs in
+          let of : (i : ℕ) → List·Memᴰ i ys → List·Memᴰ i xs = λ i m. arranged-in (T .release) xs m in
+          let a : Obeys xs ds (assigning T xs ds) =
+          any-order (assigning T xs ds)
+          (obeys (length xs) ys ds (inorder-arranged (T .release) xs) (λ i q. ones i (of i q)) (λ i j p q. tot i j (of i p) (of j q))
+          (omega (arith, e (λ i. 1), weight-length xs)) (λ i q. lim i (of i q)))
+          in
+          (λ q. rw q at a, λ b. obeys-one (assigning T xs ds) w a b)
+        where
+          any-order : (w : Outcome) → Obeys (inOrder (T .release) xs) ds w → Obeys xs ds w
+          any-order (placed es) a = (
+            same-accepts T (inOrder (T .release) xs) xs (same-arranged (T .release) xs) (a .0),
+            a .1,
+            λ i n. a .2 i (λ m. n (arranged-in (T .release) xs m)),
+          )
+          any-order (stuck p m) f = same-refuses T (inOrder (T .release) xs) xs (same-arranged (T .release) xs) f
 
 -- For a set.
 module _ (s : Subjobs) (ones : Ones (execution s) (places (size s))) where
-  pub method-placed :
-      (ds : List ℕ)
-      → (method s ≡ placed ds)
-      ↔ ((length ds ≡ size s)
-      × Accepts (release s) (execution s) (lower (deadline s) (critical s)) (deadline s) (critical s) (λ i. getD ds i 0) (places (size s)))
+  method-is : (w : Outcome) → (method s ≡ w) ↔ Obeys (terms s) (places (size s)) (replicate (size s) 0) w
   unfolding method
-  method-placed =
-      whole-placed (release s) (execution s) (lower (deadline s) (critical s)) (lower-order (deadline s) (critical s)) (deadline s)
-      (critical s) (size s) (lower-total (deadline s) (critical s) (places (size s))) ones
+  method-is =
+      assigning-is (terms s) (lower-order s) (places (size s)) (replicate (size s) 0) ones (lower-total s (places (size s)))
+      (λ i m. omega (arith, places-in (size s) i m, length-replicate {A = ℕ} (size s) 0))
 
-  pub method-stuck :
-      (p m : ℕ)
-      → (method s ≡ stuck p m)
-      ↔ Refuses (release s) (execution s) (lower (deadline s) (critical s)) (deadline s) (critical s) p m (places (size s))
-  unfolding method
-  method-stuck =
-      whole-stuck (release s) (execution s) (lower (deadline s) (critical s)) (lower-order (deadline s) (critical s)) (deadline s)
-      (critical s) (size s) (lower-total (deadline s) (critical s) (places (size s))) ones
+  -- The method gives the deadlines ds exactly if the rules do ..
+  pub method-placed : (ds : List ℕ) → (method s ≡ placed ds) ↔ ((length ds ≡ size s) × Accepted s (λ i. getD ds i 0))
+  method-placed ds = (
+    λ e. let a = method-is (placed ds) .0 e in (a .1 ∙ length-replicate {A = ℕ} (size s) 0, a .0),
+    λ a. method-is (placed ds) .1 (a .1, a .0 ∙ sym (length-replicate {A = ℕ} (size s) 0), λ i n. beyond (a .0) i n),
+  )
+    where
+      beyond :
+          length ds ≡ size s → (i : ℕ) → (List·Memᴰ i (places (size s)) → ⊥) → getD ds i 0 ≡ getD (replicate (size s) 0) i 0
+      beyond e i n =
+          test (ltb i (size s))
+          (λ y. absurd (n (in-places (size s) i (omega tests))))
+          (λ y.
+          List·getD-eq-default ds 0 (omega tests)
+          ∙ sym (List·getD-eq-default (replicate (size s) 0) 0 (omega (tests, length-replicate {A = ℕ} (size s) 0))))
+
+  -- .. and it stops at p with the completion m exactly if they refuse the set there.
+  pub method-stuck : (p m : ℕ) → (method s ≡ stuck p m) ↔ RefusedAt s p m
+  method-stuck p m = method-is (stuck p m)
+
+  -- Two lists of deadlines that the rules give a set are equal at every place.
+  pub accepted-one : {d d′ : ℕ → ℕ} → Accepted s d → Accepted s d′ → (i : ℕ) → i < size s → d i ≡ d′ i
+  accepted-one a a′ i h = one-deadline (terms s) (lower-order s) (places (size s)) ones a a′ (in-places (size s) i h)
+
+  -- Two refusals are equal.
+  pub refused-one : {p m p′ m′ : ℕ} → RefusedAt s p m → RefusedAt s p′ m′ → (p ≡ p′) × (m ≡ m′)
+  refused-one f f′ = one-refusal (terms s) (lower-order s) (places (size s)) ones f f′
+
+  -- No set is both accepted and refused.
+  pub accepted-refused : {d : ℕ → ℕ} {p m : ℕ} → Accepted s d → RefusedAt s p m → ⊥
+  accepted-refused a f = not-both (terms s) (lower-order s) (places (size s)) ones a f

@@ -1,6 +1,6 @@
--- The method is the literal rules. On a list in release order the base subset of the rules is the tail that `base`
--- finds, so a turn of the rules is a step of the method; the rules do not hang on the list's order; two outcomes of
--- the rules are equal, and what `steps` gives is one.
+-- The rules are the method, and settle their outcome. On a list in release order the base subset of the rules is the
+-- tail that `base` finds, so a turn of the rules is a step of the method; the rules do not hang on the list's order;
+-- completions fall from turn to turn; two outcomes of the rules are equal.
 use Prim.Native.Nat.{ℕ, _+_, _≤_, _<_}
 use mathlib.Core.Bool.{Bool, not}
 use mathlib.Core.List.{List, [], List·Memᴰ}
@@ -12,15 +12,16 @@ use lib.Dec.{leb, eqb}
 use Rattle.lists.specs.Places.{filter, without, least, InOrder}
 use Rattle.lists.specs.Order.{Last}
 use Rattle.lists.proofs.Cases.{split, test}
-use Rattle.lists.proofs.Members.{in-nil, in-filled, filter-nil, filter-in, without-in, in-without, inorder-filter}
+use Rattle.lists.proofs.Members.{in-nil, in-filled, filter-nil, without-in, in-without, inorder-filter}
 use Rattle.lists.proofs.Choice.{Order, last-one}
-use Rattle.subjobs.specs.Conditions.{completion}
-use Rattle.rules.specs.Method.{best, base}
-use Rattle.rules.specs.Rules.{Base, Turn, Accepts, over, place, Refuses, here, later}
+use Rattle.lists.proofs.Rearranged.{Same, same-sym, same-filter, same-in}
+use Rattle.subjobs.specs.Terms.{Terms}
+use Rattle.rules.specs.Method.{inOrder, best, base}
+use Rattle.rules.specs.Rules.{completionOf, Base, Turn, Accepts, over, place, Refuses, here, later}
 use Rattle.rules.proofs.Tails.{t1-le, base-filled, base-in, attained, latest, unique, base-threshold}
 use Rattle.rules.proofs.Falls.{falls}
-use Rattle.lists.proofs.Rearranged.{Same, same-sym, same-filter, same-in, same-filled, same-nil, same-least}
-use Rattle.rules.proofs.ReleaseOrder.{arranged}
+use Rattle.rules.proofs.ReleaseOrder.{inorder-arranged, same-arranged}
+use Rattle.rules.proofs.Renaming.{Renamed, turn-in, renamed-base, renamed-turn, renamed-accepts, renamed-refuses}
 
 -- All executions are at least 1.
 abbrev pub Ones : (ℕ → ℕ) → List ℕ → Type 0
@@ -29,208 +30,193 @@ Ones c xs = (i : ℕ) → List·Memᴰ i xs → 1 ≤ c i
 pub ones-without : (c : ℕ → ℕ) (b : ℕ) (xs : List ℕ) → Ones c xs → Ones c (without b xs)
 ones-without c b xs ones i m = ones i (without-in b xs m .0)
 
-same-completion : (r c : ℕ → ℕ) (xs ys : List ℕ) → Same xs ys → completion r c xs ≡ completion r c ys
-same-completion r c xs ys e = omega (arith, same-least r xs ys e, e c)
+-- The base tail and its completion, of what the rules read.
+abbrev pub bestOf : Terms → List ℕ → ℕ
+bestOf T xs = best (T .release) (T .execution) xs
 
--- The base subset, in release order.
-module _ (r c : ℕ → ℕ) (xs : List ℕ) (s : InOrder r xs) (ones : Ones c xs) where
-  -- The tail found is a base subset ..
-  pub tail-base : (U : ℕ → Bool) → xs ≢ [] → filter U xs ≡ base r c xs → Base r c xs U
-  tail-base U n e =
-      let a = attained r c xs s in
-      let q = ap (completion r c) e in
-      record {
-        filled = λ h. n (base-filled r c xs ones (sym e ∙ h));
-        most = λ X h. omega (arith, t1-le r c X xs);
-        latest = λ X h k. omega (arith, latest r c X xs s (k ∙ q ∙ a), ap (least r) e);
-      }
+abbrev pub baseOf : Terms → List ℕ → List ℕ
+baseOf T xs = base (T .release) (T .execution) xs
 
-  -- .. and every base subset is this tail.
-  pub base-tail : (U : ℕ → Bool) → Base r c xs U → filter U xs ≡ base r c xs
-  base-tail U h =
-      let T : ℕ → Bool = λ i. leb (least r (base r c xs)) (r i) in
-      let e : base r c xs ≡ filter T xs = base-threshold r c xs s ones in
-      let n : filter T xs ≢ [] = λ q. h .filled (empty (base-filled r c xs ones (e ∙ q))) in
-      let a = attained r c xs s in
-      let m : completion r c (filter U xs) ≡ best r c xs =
-      omega (arith, h .most T n, t1-le r c U xs, ap (completion r c) e)
-      in
-      unique r c U xs s ones m
-      (omega (arith, latest r c U xs s m, h .latest T n (sym (ap (completion r c) e) ∙ a ∙ sym m), ap (least r) e))
-    where
-      empty : xs ≡ [] → filter U xs ≡ []
-      empty e = ap (filter U) e ∙ filter-nil U
+module _ (T : Terms) where
+  -- In release order ..
+  module _ (xs : List ℕ) (s : InOrder (T .release) xs) (ones : Ones (T .execution) xs) where
+    -- .. the tail found is a base subset ..
+    pub tail-base : (U : ℕ → Bool) → xs ≢ [] → filter U xs ≡ baseOf T xs → Base T xs U
+    tail-base U n e =
+        let a = attained (T .release) (T .execution) xs s in
+        let q = ap (completionOf T) e in
+        record {
+          filled = λ h. n (base-filled (T .release) (T .execution) xs ones (sym e ∙ h));
+          most = λ X h. omega (arith, t1-le (T .release) (T .execution) X xs);
+          latest = λ X h k. omega (arith, latest (T .release) (T .execution) X xs s (k ∙ q ∙ a), ap (least (T .release)) e);
+        }
 
-  -- A turn of the rules is a step of the method.
-  pub turn-step : (lt : ℕ → ℕ → Bool) (b m : ℕ) → Turn r c lt xs b m → Last lt (base r c xs) b × (m ≡ best r c xs)
-  turn-step lt b m t =
-      let e = base-tail (t .subset) (t .isBase) in
-      (rw e at (t .isJob), t .isCompletion ∙ ap (completion r c) e ∙ attained r c xs s)
+    -- .. and every base subset is this tail.
+    pub base-tail : (U : ℕ → Bool) → Base T xs U → filter U xs ≡ baseOf T xs
+    base-tail U h =
+        let X : ℕ → Bool = λ i. leb (least (T .release) (baseOf T xs)) (T .release i) in
+        let e : baseOf T xs ≡ filter X xs = base-threshold (T .release) (T .execution) xs s ones in
+        let n : filter X xs ≢ [] =
+        λ q. h .filled (ap (filter U) (base-filled (T .release) (T .execution) xs ones (e ∙ q)) ∙ filter-nil U)
+        in
+        let a = attained (T .release) (T .execution) xs s in
+        let m : completionOf T (filter U xs) ≡ bestOf T xs =
+        omega (arith, h .most X n, t1-le (T .release) (T .execution) U xs, ap (completionOf T) e)
+        in
+        unique (T .release) (T .execution) U xs s ones m
+        (omega (
+          arith,
+          latest (T .release) (T .execution) U xs s m,
+          h .latest X n (sym (ap (completionOf T) e) ∙ a ∙ sym m),
+          ap (least (T .release)) e,
+        ))
 
-  pub step-turn : (lt : ℕ → ℕ → Bool) (b m : ℕ) → Last lt (base r c xs) b → m ≡ best r c xs → Turn r c lt xs b m
-  step-turn lt b m l k =
-      let e = base-threshold r c xs s ones in
-      record {
-        subset = λ i. leb (least r (base r c xs)) (r i);
-        isBase = tail-base (λ i. leb (least r (base r c xs)) (r i)) (in-filled (base-in r c xs (l .0))) (sym e);
-        isJob = rw (← e) l;
-        isCompletion = k ∙ sym (attained r c xs s) ∙ ap (completion r c) e;
-      }
+    -- A turn of the rules is a step of the method.
+    pub turn-step : {b m : ℕ} → Turn T xs b m → Last (T .lower) (baseOf T xs) b × (m ≡ bestOf T xs)
+    turn-step t =
+        let e = base-tail (t .subset) (t .isBase) in
+        (rw e at (t .isJob), t .isCompletion ∙ ap (completionOf T) e ∙ attained (T .release) (T .execution) xs s)
 
--- The rules do not hang on the order of the list.
-module _ (r c : ℕ → ℕ) where
-  pub same-base : (xs ys : List ℕ) → Same xs ys → (U : ℕ → Bool) → Base r c xs U → Base r c ys U
-  same-base xs ys e U h =
-      let back : Same ys xs = same-sym xs ys e in
-      let k : (X : ℕ → Bool) → completion r c (filter X xs) ≡ completion r c (filter X ys) =
-      λ X. same-completion r c (filter X xs) (filter X ys) (same-filter X xs ys e)
-      in
-      let l : (X : ℕ → Bool) → least r (filter X xs) ≡ least r (filter X ys) =
-      λ X. same-least r (filter X xs) (filter X ys) (same-filter X xs ys e)
-      in
-      let n : (X : ℕ → Bool) → filter X ys ≢ [] → filter X xs ≢ [] =
-      λ X. same-filled (filter X ys) (filter X xs) (same-filter X ys xs back)
-      in
-      record {
-        filled = same-filled (filter U xs) (filter U ys) (same-filter U xs ys e) (h .filled);
-        most = λ X q. omega (arith, h .most X (n X q), k X, k U);
-        latest = λ X q w. omega (arith, h .latest X (n X q) (k X ∙ w ∙ sym (k U)), l X, l U);
-      }
+    -- A step of the method is a turn of the rules.
+    pub step-turn : {b m : ℕ} → Last (T .lower) (baseOf T xs) b → m ≡ bestOf T xs → Turn T xs b m
+    step-turn l k =
+        let e = base-threshold (T .release) (T .execution) xs s ones in
+        record {
+          subset = λ i. leb (least (T .release) (baseOf T xs)) (T .release i);
+          isBase = tail-base _ (in-filled (base-in (T .release) (T .execution) xs (l .0))) (sym e);
+          isJob = rw (← e) l;
+          isCompletion = k ∙ sym (attained (T .release) (T .execution) xs s) ∙ ap (completionOf T) e;
+        }
 
-module _ (r c : ℕ → ℕ) (lt : ℕ → ℕ → Bool) where
-  pub turn-in : (xs : List ℕ) (b m : ℕ) → Turn r c lt xs b m → List·Memᴰ b xs
-  turn-in xs b m t = filter-in (t .subset) xs (t .isJob .0) .0
+  -- The rules do not hang on the order of the list.
+  module _ (xs ys : List ℕ) (e : Same xs ys) where
+    same-renamed : Renamed (λ i. i) (λ i. i) T T xs ys
+    same-renamed =
+        record {
+          moved = e;
+          back = λ i m. refl;
+          release = λ i m. refl;
+          execution = λ i m. refl;
+          deadline = λ i m. refl;
+          withheld = λ i m. refl;
+          lower = λ i j m k. refl;
+        }
 
-  pub same-turn : (xs ys : List ℕ) → Same xs ys → (b m : ℕ) → Turn r c lt xs b m → Turn r c lt ys b m
-  same-turn xs ys e b m t =
-      let f : Same (filter (t .subset) xs) (filter (t .subset) ys) = same-filter (t .subset) xs ys e in
-      let g = same-sym (filter (t .subset) xs) (filter (t .subset) ys) f in
-      record {
-        subset = t .subset;
-        isBase = same-base r c xs ys e (t .subset) (t .isBase);
-        isJob = (
-          same-in (filter (t .subset) xs) (filter (t .subset) ys) f (t .isJob .0),
-          λ i m. t .isJob .1 i (same-in (filter (t .subset) ys) (filter (t .subset) xs) g m),
-        );
-        isCompletion = t .isCompletion ∙ same-completion r c (filter (t .subset) xs) (filter (t .subset) ys) f;
-      }
+    pub same-turn : {b m : ℕ} → Turn T xs b m → Turn T ys b m
+    same-turn t = renamed-turn same-renamed t
 
-  pub same-accepts :
-      (dl z d : ℕ → ℕ) (xs ys : List ℕ) → Same xs ys → Accepts r c lt dl z d xs → Accepts r c lt dl z d ys
-  same-accepts dl z d xs ys e over = rw (same-nil [] ys e refl) over
-  same-accepts dl z d xs ys e (place b t h a) =
-      place b (same-turn xs ys e b (d b) t) h
-      (same-accepts dl z d (without b xs) (without b ys) (same-filter (λ i. not (eqb i b)) xs ys e) a)
+    pub same-accepts : {d : ℕ → ℕ} → Accepts T d xs → Accepts T d ys
+    same-accepts {d} a = renamed-accepts same-renamed d d (λ i m. refl) a
 
-  pub same-refuses :
-      (dl z : ℕ → ℕ) (p m : ℕ) (xs ys : List ℕ) → Same xs ys → Refuses r c lt dl z p m xs → Refuses r c lt dl z p m ys
-  same-refuses dl z p m xs ys e (here t h) = here (same-turn xs ys e p m t) h
-  same-refuses dl z p m xs ys e (later b k t h a) =
-      later b k (same-turn xs ys e b k t) h
-      (same-refuses dl z p m (without b xs) (without b ys) (same-filter (λ i. not (eqb i b)) xs ys e) a)
+    pub same-refuses : {p m : ℕ} → Refuses T p m xs → Refuses T p m ys
+    same-refuses f = renamed-refuses same-renamed f
 
   -- Who is refused is one of the list.
-  pub refused-in : (dl z : ℕ → ℕ) (p m : ℕ) (xs : List ℕ) → Refuses r c lt dl z p m xs → List·Memᴰ p xs
-  refused-in dl z p m xs (here t h) = turn-in xs p m t
-  refused-in dl z p m xs (later b k t h f) = without-in b xs (refused-in dl z p m (without b xs) f) .0
+  pub refused-in : {p m : ℕ} (xs : List ℕ) → Refuses T p m xs → List·Memᴰ p xs
+  refused-in xs (here t h) = turn-in t
+  refused-in xs (later b k t h f) = without-in b xs (refused-in (without b xs) f) .0
 
--- Two outcomes of the rules are equal.
-module _ (r c : ℕ → ℕ) (lt : ℕ → ℕ → Bool) (o : Order lt) where
-  pub turn-one :
-      (xs : List ℕ) → Ones c xs → (b b′ m m′ : ℕ) → Turn r c lt xs b m → Turn r c lt xs b′ m′ → (b ≡ b′) × (m ≡ m′)
-  turn-one xs ones b b′ m m′ t t′ =
-      let w = arranged r xs in
-      let ys : List ℕ = w .0 in
-      let one : Ones c ys = λ i q. ones i (same-in ys xs (same-sym xs ys (w .1)) q) in
-      let u = turn-step r c ys (w .2) one lt b m (same-turn r c lt xs ys (w .1) b m t) in
-      let u′ = turn-step r c ys (w .2) one lt b′ m′ (same-turn r c lt xs ys (w .1) b′ m′ t′) in
-      (last-one lt o (base r c ys) b b′ (u .0) (u′ .0), u .1 ∙ sym (u′ .1))
+  -- The base subset of any list is the base tail of that list in release order ..
+  pub base-arranged :
+      (xs ys : List ℕ)
+      → Same xs ys
+      → InOrder (T .release) ys
+      → Ones (T .execution) xs
+      → {U : ℕ → Bool}
+      → Base T xs U
+      → Same (filter U xs) (baseOf T ys)
+  base-arranged xs ys e s ones {U} h =
+      rw (← base-tail ys s (λ i q. ones i (same-in ys xs (same-sym xs ys e) q)) U (renamed-base (same-renamed xs ys e) h))
+      (same-filter U xs ys e)
 
-  -- Completions fall from one turn to the next.
-  pub turn-falls :
-      (xs : List ℕ) → Ones c xs → (b b′ m m′ : ℕ) → Turn r c lt xs b m → Turn r c lt (without b xs) b′ m′ → m′ < m
-  turn-falls xs ones b b′ m m′ t t′ =
-      let w = arranged r xs in
-      let ys : List ℕ = w .0 in
-      let one : Ones c ys = λ i q. ones i (same-in ys xs (same-sym xs ys (w .1)) q) in
-      let u = turn-step r c ys (w .2) one lt b m (same-turn r c lt xs ys (w .1) b m t) in
-      let u′ =
-      turn-step r c (without b ys) (inorder-filter r (λ i. not (eqb i b)) ys (w .2)) (ones-without c b ys one) lt b′ m′
-      (same-turn r c lt (without b xs) (without b ys) (same-filter (λ i. not (eqb i b)) xs ys (w .1)) b′ m′ t′)
-      in
-      omega (arith, falls r c ys (u .0 .0) (one b (base-in r c ys (u .0 .0))))
+  -- .. and a turn of any list is a step of the method on it in release order.
+  pub turn-arranged :
+      (xs ys : List ℕ)
+      → Same xs ys
+      → InOrder (T .release) ys
+      → Ones (T .execution) xs
+      → {b m : ℕ}
+      → Turn T xs b m
+      → Last (T .lower) (baseOf T ys) b × (m ≡ bestOf T ys)
+  turn-arranged xs ys e s ones t =
+      turn-step ys s (λ i q. ones i (same-in ys xs (same-sym xs ys e) q)) (same-turn xs ys e t)
 
-  module _ (dl z : ℕ → ℕ) where
-    -- What the rules say of a list, taken apart.
-    pub accepts-cases :
-        (d : ℕ → ℕ) {xs : List ℕ}
-        → Accepts r c lt dl z d xs
-        → (xs ≡ []) ⊎ ((b : ℕ) × Turn r c lt xs b (d b) × (d b + z b ≤ dl b) × Accepts r c lt dl z d (without b xs))
-    accepts-cases d over = inl refl
-    accepts-cases d (place b t h a) = inr (b, t, h, a)
+  module _ (o : Order (T .lower)) where
+    -- Two turns of a list are equal.
+    pub turn-one :
+        (xs : List ℕ) → Ones (T .execution) xs → {b b′ m m′ : ℕ} → Turn T xs b m → Turn T xs b′ m′ → (b ≡ b′) × (m ≡ m′)
+    turn-one xs ones {b} {b′} t t′ =
+        let ys : List ℕ = inOrder (T .release) xs in
+        let e = same-sym ys xs (same-arranged (T .release) xs) in
+        let u = turn-arranged xs ys e (inorder-arranged (T .release) xs) ones t in
+        let u′ = turn-arranged xs ys e (inorder-arranged (T .release) xs) ones t′ in
+        (last-one (T .lower) o (baseOf T ys) b b′ (u .0) (u′ .0), u .1 ∙ sym (u′ .1))
 
-    pub refuses-cases :
-        (p m : ℕ) {xs : List ℕ}
-        → Refuses r c lt dl z p m xs
-        → (Turn r c lt xs p m × (dl p < m + z p))
-        ⊎ ((b : ℕ) × (k : ℕ) × Turn r c lt xs b k × (k + z b ≤ dl b) × Refuses r c lt dl z p m (without b xs))
-    refuses-cases p m (here t h) = inl (t, h)
-    refuses-cases p m (later b k t h a) = inr (b, k, t, h, a)
+    -- Completions fall from one turn to the next.
+    pub turn-falls :
+        (xs : List ℕ) → Ones (T .execution) xs → {b b′ m m′ : ℕ} → Turn T xs b m → Turn T (without b xs) b′ m′ → m′ < m
+    turn-falls xs ones {b} t t′ =
+        let ys : List ℕ = inOrder (T .release) xs in
+        let s = inorder-arranged (T .release) xs in
+        let e = same-sym ys xs (same-arranged (T .release) xs) in
+        let u = turn-arranged xs ys e s ones t in
+        let u′ =
+        turn-arranged (without b xs) (without b ys) (same-filter (λ i. not (eqb i b)) xs ys e)
+        (inorder-filter (T .release) (λ i. not (eqb i b)) ys s) (ones-without (T .execution) b xs ones) t′
+        in
+        omega (arith, falls (T .release) (T .execution) ys (u .0 .0) (ones b (turn-in t)))
+
+    -- What the turn says of an accepted list ..
+    pub accepts-turn :
+        {d : ℕ → ℕ} (xs : List ℕ)
+        → Ones (T .execution) xs
+        → {b m : ℕ}
+        → Turn T xs b m
+        → Accepts T d xs
+        → (d b ≡ m) × (d b + T .withheld b ≤ T .deadline b) × Accepts T d (without b xs)
+    accepts-turn xs ones t over = in-nil (turn-in t)
+    accepts-turn xs ones t (place b h k a) = let q = turn-one xs ones t h in rw (q .0) (sym (q .1), k, a)
+
+    -- .. and of a refused one: p has the turn, or is refused later.
+    pub refuses-turn :
+        {p m : ℕ} (xs : List ℕ)
+        → Ones (T .execution) xs
+        → {b k : ℕ}
+        → Turn T xs b k
+        → Refuses T p m xs
+        → ((b ≡ p) × (k ≡ m) × (T .deadline b < k + T .withheld b))
+        ⊎ ((k + T .withheld b ≤ T .deadline b) × Refuses T p m (without b xs))
+    refuses-turn xs ones t (here h k) = let q = turn-one xs ones t h in inl (q .0, q .1, rw (q .0, q .1) k)
+    refuses-turn xs ones t (later b n h k f) = let q = turn-one xs ones t h in inr (rw (q .0, q .1) (k, f))
 
     -- Two lists of deadlines that the rules give are equal.
     pub one-deadline :
-        (d d′ : ℕ → ℕ) (xs : List ℕ)
-        → Ones c xs
-        → Accepts r c lt dl z d xs
-        → Accepts r c lt dl z d′ xs
+        {d d′ : ℕ → ℕ} (xs : List ℕ)
+        → Ones (T .execution) xs
+        → Accepts T d xs
+        → Accepts T d′ xs
         → {i : ℕ}
         → List·Memᴰ i xs
         → d i ≡ d′ i
-    one-deadline d d′ xs ones over a′ m = in-nil m
-    one-deadline d d′ xs ones (place b t h a) a′ {i} m =
-        split (accepts-cases d′ a′)
-        (λ e. in-nil (rw e at m))
-        (λ w.
-        let q = turn-one xs ones b (w .0) (d b) (d′ (w .0)) t (w .1) in
-        let rest = rw (← q .0) at (w .3) in
+    one-deadline xs ones over a′ m = in-nil m
+    one-deadline {d} {d′} xs ones (place b t h a) a′ {i} m =
+        let w = accepts-turn xs ones t a′ in
         test (eqb i b)
-        (λ y. let e = eqb-true i b y in ap d e ∙ q .1 ∙ ap d′ (sym (e ∙ q .0)))
-        (λ y. one-deadline d d′ (without b xs) (ones-without c b xs ones) a rest (in-without b xs m (eqb-false i b y))))
+        (λ y. let e = eqb-true i b y in rw e (sym (w .0)))
+        (λ y. one-deadline (without b xs) (ones-without (T .execution) b xs ones) a (w .2) (in-without b xs m (eqb-false i b y)))
 
     -- The rules do not both accept and refuse a list.
-    pub not-both :
-        (d : ℕ → ℕ) (p m : ℕ) (xs : List ℕ) → Ones c xs → Accepts r c lt dl z d xs → Refuses r c lt dl z p m xs → ⊥
-    not-both d p m xs ones a (here t h) =
-        split (accepts-cases d a)
-        (λ e. in-nil (rw e at (turn-in r c lt xs p m t)))
-        (λ w.
-        let q = turn-one xs ones p (w .0) m (d (w .0)) t (w .1) in
-        omega (arith, q .1, ap dl (q .0), ap z (q .0)))
-    not-both d p m xs ones a (later b k t h f) =
-        split (accepts-cases d a)
-        (λ e. in-nil (rw e at (turn-in r c lt xs b k t)))
-        (λ w.
-        let q = turn-one xs ones b (w .0) k (d (w .0)) t (w .1) in
-        not-both d p m (without b xs) (ones-without c b xs ones) (rw (← q .0) at (w .3)) f)
+    pub not-both : {d : ℕ → ℕ} {p m : ℕ} (xs : List ℕ) → Ones (T .execution) xs → Accepts T d xs → Refuses T p m xs → ⊥
+    not-both xs ones a (here t h) = let w = accepts-turn xs ones t a in omega (arith, w .0, w .1)
+    not-both xs ones a (later b k t h f) =
+        not-both (without b xs) (ones-without (T .execution) b xs ones) (accepts-turn xs ones t a .2) f
 
     -- Two refusals are equal.
     pub one-refusal :
-        (p m p′ m′ : ℕ) (xs : List ℕ)
-        → Ones c xs
-        → Refuses r c lt dl z p m xs
-        → Refuses r c lt dl z p′ m′ xs
-        → (p ≡ p′) × (m ≡ m′)
-    one-refusal p m p′ m′ xs ones (here t h) f′ =
-        split (refuses-cases p′ m′ f′)
-        (λ w. turn-one xs ones p p′ m m′ t (w .0))
-        (λ w.
-        let q = turn-one xs ones p (w .0) m (w .1) t (w .2) in
-        absurd (omega (arith, q .1, ap dl (q .0), ap z (q .0))))
-    one-refusal p m p′ m′ xs ones (later b k t h f) f′ =
-        split (refuses-cases p′ m′ f′)
-        (λ w.
-        let q = turn-one xs ones b p′ k m′ t (w .0) in
-        absurd (omega (arith, q .1, ap dl (q .0), ap z (q .0))))
-        (λ w.
-        let q = turn-one xs ones b (w .0) k (w .1) t (w .2) in
-        one-refusal p m p′ m′ (without b xs) (ones-without c b xs ones) f (rw (← q .0) at (w .4)))
+        {p m p′ m′ : ℕ} (xs : List ℕ) → Ones (T .execution) xs → Refuses T p m xs → Refuses T p′ m′ xs → (p ≡ p′) × (m ≡ m′)
+    one-refusal xs ones (here t h) f′ =
+        split (refuses-turn xs ones t f′) (λ w. (w .0, w .1)) (λ w. absurd (omega (arith, w .0)))
+    one-refusal xs ones (later b k t h f) f′ =
+        split (refuses-turn xs ones t f′)
+        (λ w. absurd (omega (arith, w .2)))
+        (λ w. one-refusal (without b xs) (ones-without (T .execution) b xs ones) f (w .1))

@@ -10,8 +10,8 @@ use borrow.Author.Tests.{leb-true, le-leb}
 use lib.Dec.{ltb, leb}
 use Rattle.lists.specs.Places.{filter, weight, least, InOrder}
 use Rattle.lists.proofs.Cases.{split, test, tests}
-use Rattle.lists.proofs.Members.{cons-nil, or-filled, filter-all, filter-cases, filter-nil, filter-in}
-use Rattle.lists.proofs.Sums.{weight-nil, weight-cons, weight-filter, least-le, least-most, least-inorder}
+use Rattle.lists.proofs.Members.{cons-nil, or-filled, filter-all, filter-cases, filter-nil, filter-in, filter-within}
+use Rattle.lists.proofs.Sums.{weight-nil, weight-cons, weight-filter, weight-whole, least-le, least-most, least-inorder}
 use Rattle.subjobs.specs.Conditions.{completion}
 use Rattle.rules.specs.Method.{best, base}
 
@@ -65,11 +65,12 @@ module _ (r c : ℕ → ℕ) where
       (λ e. omega (arith, ap (weight c) e, weight-nil c))
       (λ n. omega (arith, least-most r f (filter U xs) n (λ i m. leb-true f (r i) (filter-in U xs m .1))))
 
-  -- The members of the base are members of the list, and it weighs no more.
+  -- The members of the base are members of the list.
   pub base-in : (xs : List ℕ) {i : ℕ} → List·Memᴰ i (base r c xs) → List·Memᴰ i xs
   base-in [] m = rw base-nil at m
   base-in (x ∷ xs) m = split (base-cases x xs) (λ b. rw (b .1) at m) (λ b. List·Memᴰ·tail (base-in xs (rw (b .1) at m)))
 
+  -- The base weighs no more than the list.
   pub weight-base : (f : ℕ → ℕ) (xs : List ℕ) → weight f (base r c xs) ≤ weight f xs
   weight-base f [] = omega (arith, ap (weight f) base-nil)
   weight-base f (x ∷ xs) =
@@ -119,52 +120,6 @@ module _ (r c : ℕ → ℕ) where
       omega (arith, ap (least r) (q .1), ap (least r) (b .1), least-le r (x ∷ filter U xs) (List·Memᴰ·head refl), passed x xs (s .1) (b .0)))
       (λ q. omega (arith, ap (least r) (q .1), ap (least r) (b .1), latest U xs (s .1) (sym (ap (completion r c) (q .1)) ∙ h ∙ b .2))))
 
-  -- A subset that weighs what its group weighs is the group.
-  pub weight-whole :
-      (U : ℕ → Bool) (xs : List ℕ) → ((i : ℕ) → List·Memᴰ i xs → 1 ≤ c i) → weight c xs ≤ weight c (filter U xs) → filter U xs ≡ xs
-  weight-whole U [] ones h = filter-nil U
-  weight-whole U (x ∷ xs) ones h =
-      let o = ones x (List·Memᴰ·head refl) in
-      let w = weight-cons c x xs in
-      split (filter-cases U x xs)
-      (λ q.
-      q .1
-      ∙ ap (λ (ys : List ℕ). x ∷ ys)
-      (weight-whole U xs (λ i m. ones i (List·Memᴰ·tail m)) (omega (arith, ap (weight c) (q .1), weight-cons c x (filter U xs)))))
-      (λ q. absurd (omega (arith, ap (weight c) (q .1), weight-filter c U xs)))
-
-  -- A subset that completes at the best and starts where the base does is the base.
-  pub unique :
-      (U : ℕ → Bool) (xs : List ℕ)
-      → InOrder r xs
-      → ((i : ℕ) → List·Memᴰ i xs → 1 ≤ c i)
-      → completion r c (filter U xs) ≡ best r c xs
-      → least r (filter U xs) ≡ least r (base r c xs)
-      → filter U xs ≡ base r c xs
-  unique U [] s ones h l = filter-nil U ∙ sym base-nil
-  unique U (x ∷ xs) s ones h l =
-      let t = t1-le U xs in
-      let f = filter-cases U x xs in
-      let more : (i : ℕ) → List·Memᴰ i xs → 1 ≤ c i = λ i m. ones i (List·Memᴰ·tail m) in
-      split (base-cases x xs)
-      (λ b.
-      split f
-      (λ q.
-      weight-whole U (x ∷ xs) ones
-      (omega (arith, ap (least r) (b .1), least-inorder r x xs (s .0), weight-cons c x xs))
-      ∙ sym (b .1))
-      (λ q. absurd (omega (arith, ap (completion r c) (q .1)))))
-      (λ b.
-      split f
-      (λ q.
-      absurd
-      (omega
-      (arith, ap (least r) (q .1), ap (least r) (b .1), least-le r (x ∷ filter U xs) (List·Memᴰ·head refl), passed x xs (s .1) (b .0), ones x (List·Memᴰ·head refl))))
-      (λ q.
-      q .1
-      ∙ unique U xs (s .1) more (sym (ap (completion r c) (q .1)) ∙ h ∙ b .2) (sym (ap (least r) (q .1)) ∙ l ∙ ap (least r) (b .1))
-      ∙ sym (b .1)))
-
   -- The base is all those released at or after one release: the one at which it starts.
   pub base-threshold :
       (xs : List ℕ) → InOrder r xs → ((i : ℕ) → List·Memᴰ i xs → 1 ≤ c i) → base r c xs ≡ filter (λ i. leb (least r (base r c xs)) (r i)) xs
@@ -183,3 +138,22 @@ module _ (r c : ℕ → ℕ) where
       absurd
       (omega (arith, leb-true (least r (base r c xs)) (r x) (q .0), passed x xs (s .1) (b .0), ones x (List·Memᴰ·head refl))))
       (λ q. base-threshold xs (s .1) (λ i m. ones i (List·Memᴰ·tail m)) ∙ sym (q .1))))
+
+  -- A subset that completes at the best and starts where the base does is the base.
+  pub unique :
+      (U : ℕ → Bool) (xs : List ℕ)
+      → InOrder r xs
+      → ((i : ℕ) → List·Memᴰ i xs → 1 ≤ c i)
+      → completion r c (filter U xs) ≡ best r c xs
+      → least r (filter U xs) ≡ least r (base r c xs)
+      → filter U xs ≡ base r c xs
+  unique U xs s ones h l =
+      let X : ℕ → Bool = λ i. leb (least r (base r c xs)) (r i) in
+      let e : base r c xs ≡ filter X xs = base-threshold xs s ones in
+      let q : filter U (filter X xs) ≡ filter U xs =
+      filter-within U X xs (λ i m. le-leb (least r (base r c xs)) (r i) (omega (arith, least-le r (filter U xs) m)))
+      in
+      sym q
+      ∙ weight-whole c U (filter X xs) (λ i m. ones i (filter-in X xs m .0))
+      (omega (arith, ap (weight c) q, ap (weight c) e, attained xs s))
+      ∙ sym e

@@ -1,107 +1,171 @@
--- What a set that passes refusals 1 to 4 is known to be. Every entry's proof starts from here.
-use Prim.Native.Nat.{ℕ, zero, suc, _+_, _<_, _≤_}
-use mathlib.Core.Bool.{Bool, true, false, cond, _&&_, _||_}
-use mathlib.Core.Path.{_≡_, refl, sym, _∙_}
+-- The judgement, both ways: a set passes exactly if it is `Fit`, and it is refused for a reason exactly if it is `Faulty` for
+-- that reason. Every entry's proof starts from `fit`.
+use Prim.Native.Nat.{ℕ, _<_, _≤_}
+use mathlib.Core.Bool.{Bool, true, false, _&&_}
+use mathlib.Core.Logic.{_⊎_, _↔_, inl, inr}
+use mathlib.Core.Path.{_≡_, refl}
 use native.Mathlib.Omega.{arith}
-use borrow.Author.Tests.{eq-eqb}
-use lib.Dec.{ltb, eqb}
-use lib.ListN.{length}
-use Rattle.lists.specs.Search.{someFrom}
-use Rattle.lists.proofs.Cases.{test, clash, tests, neither}
-use Rattle.subjobs.specs.declared.Judgement.{Judgement}
+use borrow.Author.Tests.{eqb-true, eq-eqb, le-leb, leb-true}
+use lib.Dec.{leb, eqb}
+use Rattle.lists.proofs.Cases.{split, clash, both, tests}
+use Rattle.lists.proofs.Searched.{some-cases}
+use Rattle.subjobs.specs.declared.Field.{Field}
+use Rattle.subjobs.specs.declared.Field.the-variants.{Release, Execution, Deadline, Critical}
 use Rattle.subjobs.specs.declared.Judgement.the-variants.{Passed, Refused}
 use Rattle.subjobs.specs.declared.Reason.{Reason}
-use Rattle.subjobs.specs.declared.Reason.the-variants.{Lengths, TooMany, Pair}
+use Rattle.subjobs.specs.declared.Reason.the-variants.{Lengths, TooMany, Range, Pair}
 use Rattle.subjobs.specs.Sets.{Subjobs, size, job, subtask, release, execution, deadline, critical}
-use Rattle.subjobs.specs.Judging.{oneLength, orElse, refusalFrom, rangeAt, ranges, seenEarlier, pairAt, pairs, judgement}
-use Rattle.subjobs.proofs.Lengths.{OneLength, one-length, judged-lengths, judged-many, judged-rest}
+use Rattle.subjobs.specs.Judging.{unless, oneLength, rangeAt, pairAt, judgement}
+use Rattle.subjobs.specs.Faults.{OneLength, InRange, Ranged, RangedBefore, SamePair, Faulty, lengths, many, range, pair}
+use Rattle.subjobs.proofs.Exactly.{Exactly, passing, refusing, exactly-so, exactly-test, exactly-unless, exactly-or, exactly-first}
+pub use Rattle.subjobs.specs.Faults.{Fit}
+pub use Rattle.subjobs.proofs.Exactly.{refused-passed}
 
--- The fields of one sub-job in their ranges.
-pub record InRange (r c dl z : ℕ) : Type 0 where
-  pub release : r ≤ 1_000_000_000
-  pub some : 1 ≤ c
-  pub execution : c ≤ 1_000_000
-  pub deadline : dl ≤ 2_000_000_000
-  pub critical : z ≤ 1_000_000_000
+-- 1
+pub one-length : (s : Subjobs) (others : Bool) → oneLength s others ≡ true → OneLength s others
+one-length s others e =
+    let f = both e in
+    let d = both (f .0) in
+    let c = both (d .0) in
+    let b = both (c .0) in
+    let a = both (b .0) in
+    record {
+      subtasks = eqb-true _ _ (a .0);
+      releases = eqb-true _ _ (a .1);
+      executions = eqb-true _ _ (b .1);
+      deadlines = eqb-true _ _ (c .1);
+      criticals = eqb-true _ _ (d .1);
+      further = f .1;
+    }
 
-pub record Fit (s : Subjobs) (others : Bool) : Type 0 where
-  pub lengths : OneLength s others
-  pub few : size s ≤ 128
-  pub ranges : (i : ℕ) → i < size s → InRange (release s i) (execution s i) (deadline s i) (critical s i)
-  pub pairs : (i j : ℕ) → i < j → j < size s → job s i ≡ job s j → subtask s i ≡ subtask s j → ⊥
+all-one-length : (s : Subjobs) (others : Bool) → OneLength s others → oneLength s others ≡ true
+all-one-length s others l =
+    rw (
+      eq-eqb _ _ (l .subtasks),
+      eq-eqb _ _ (l .releases),
+      eq-eqb _ _ (l .executions),
+      eq-eqb _ _ (l .deadlines),
+      eq-eqb _ _ (l .criticals),
+      l .further,
+    )
 
-pub refused-passed : {X : Type 0} (r : Reason) → Refused r ≡ Passed → X
-refused-passed r e = let z : _≡_ {A = ℕ} 0 1 = cc in absurd (omega arith)
+-- 3
+at-most : (x m : ℕ) (w : Reason) → Exactly (unless (leb x m) w) (x ≤ m) (λ r. (r ≡ w) × (x ≤ m → ⊥))
+at-most x m w = exactly-test (leb x m) w (leb-true x m) (le-leb x m)
 
-or-else : (a b : Judgement) → orElse a b ≡ Passed → (a ≡ Passed) × (b ≡ Passed)
-or-else Passed b e = (refl, e)
-or-else (Refused r) b e = refused-passed r e
+between :
+    (a x m : ℕ) (w : Reason)
+    → Exactly (unless (leb a x && leb x m) w) ((a ≤ x) × (x ≤ m)) (λ r. (r ≡ w) × ((a ≤ x) × (x ≤ m) → ⊥))
+between a x m w =
+    exactly-test (leb a x && leb x m) w
+    (λ e. let b = both e in (leb-true _ _ (b .0), leb-true _ _ (b .1)))
+    (λ h. rw (le-leb _ _ (h .0), le-leb _ _ (h .1)))
 
--- A search that refuses nobody passes at every place.
-pub all-pass : (J : ℕ → Judgement) (n i : ℕ) → refusalFrom J n i ≡ Passed → (k : ℕ) → i ≤ k → k < i + n → J k ≡ Passed
-unfolding refusalFrom
-all-pass J zero i e k lo hi = absurd (omega arith)
-all-pass J (suc n) i e k lo hi =
-    let h = or-else (J i) (refusalFrom J n (suc i)) e in
-    test (eqb k i)
-    (λ q. let p : k ≡ i = omega tests in rw p (h .0))
-    (λ q. all-pass J n (suc i) (h .1) k (omega tests) (omega tests))
+module _ (s : Subjobs) (p : ℕ) where
+  -- The first field of a place that is out of range.
+  abbrev FirstOut : Reason → Type 0
+  FirstOut r = (f : Field) × (r ≡ Range p f) × RangedBefore s f p × (Ranged s f p → ⊥)
 
-unless : (b : Bool) (r : Reason) (j : Judgement) → cond b (Refused r) j ≡ Passed → (b ≡ false) × (j ≡ Passed)
-unless true r j e = refused-passed r e
-unless false r j e = (refl, e)
+  -- the same, as the checks are made one after the other
+  abbrev Out : Reason → Type 0
+  Out r =
+      ((r ≡ Range p Release) × (Ranged s Release p → ⊥))
+      ⊎ (Ranged s Release p
+      × (((r ≡ Range p Execution) × (Ranged s Execution p → ⊥))
+      ⊎ (Ranged s Execution p
+      × (((r ≡ Range p Deadline) × (Ranged s Deadline p → ⊥))
+      ⊎ (Ranged s Deadline p × ((r ≡ Range p Critical) × (Ranged s Critical p → ⊥)))))))
 
-in-range : (p r c dl z : ℕ) → rangeAt p r c dl z ≡ Passed → InRange r c dl z
-in-range p r c dl z e =
-    let a = unless (ltb 1_000_000_000 r) _ _ e in
-    let b = unless (ltb c 1 || ltb 1_000_000 c) _ _ (a .1) in
-    let d = unless (ltb 2_000_000_000 dl) _ _ (b .1) in
-    let f = unless (ltb 1_000_000_000 z) _ _ (d .1) in
-    let g = neither {a = ltb c 1} {b = ltb 1_000_000 c} (b .0) in
-    let l = g .0 in
-    let h = g .1 in
-    let a0 = a .0 in
-    let d0 = d .0 in
-    let f0 = f .0 in
-    record { release = omega tests; some = omega tests; execution = omega tests; deadline = omega tests; critical = omega tests }
+  range-exactly :
+      Exactly (rangeAt p (release s p) (execution s p) (deadline s p) (critical s p))
+      (InRange (release s p) (execution s p) (deadline s p) (critical s p))
+      FirstOut
+  range-exactly =
+      exactly-so
+      (exactly-or (at-most (release s p) 1_000_000_000 (Range p Release))
+      (exactly-or (between 1 (execution s p) 1_000_000 (Range p Execution))
+      (exactly-or (at-most (deadline s p) 2_000_000_000 (Range p Deadline))
+      (at-most (critical s p) 1_000_000_000 (Range p Critical)))))
+      (λ h. record { release = h .0; some = h .1 .0 .0; execution = h .1 .0 .1; deadline = h .1 .1 .0; critical = h .1 .1 .1 })
+      (λ h. (h .release, ((h .some, h .execution), (h .deadline, h .critical))))
+      (λ r q.
+      split q (λ h. (Release, h .0, tt, h .1))
+      (λ a.
+      split (a .1) (λ h. (Execution, h .0, a .0, h .1))
+      (λ b.
+      split (b .1) (λ h. (Deadline, h .0, (a .0, b .0), h .1))
+      (λ d. (Critical, d .1 .0, (a .0, b .0, d .0), d .1 .1)))))
+      back
+    where
+      back : (r : Reason) → FirstOut r → Out r
+      back r (Release, e, h, n) = inl (e, n)
+      back r (Execution, e, h, n) = inr (h, inl (e, n))
+      back r (Deadline, e, h, n) = inr (h .0, inr (h .1, inl (e, n)))
+      back r (Critical, e, h, n) = inr (h .0, inr (h .1, inr (h .2, (e, n))))
 
--- A search that finds nothing passes a test at no place.
-none-found : (P : ℕ → Bool) (n i : ℕ) → someFrom P n i ≡ false → (k : ℕ) → i ≤ k → k < i + n → P k ≡ false
-unfolding someFrom
-none-found P zero i e k lo hi = absurd (omega arith)
-none-found P (suc n) i e k lo hi =
-    let h = neither {a = P i} {b = someFrom P n (suc i)} e in
-    test (eqb k i)
-    (λ q. let p : k ≡ i = omega tests in rw p (h .0))
-    (λ q. none-found P n (suc i) (h .1) k (omega tests) (omega tests))
+  -- 4
+  abbrev New : Type 0
+  New = (j : ℕ) → j < p → SamePair s j p → ⊥
+
+  abbrev Seen : Type 0
+  Seen = (j : ℕ) × (j < p) × SamePair s j p
+
+  pair-exactly : Exactly (pairAt (job s) (subtask s) p) New (λ r. (r ≡ Pair p) × Seen)
+  pair-exactly =
+      split (some-cases (λ j. eqb (job s j) (job s p) && eqb (subtask s j) (subtask s p)) p)
+      (λ h.
+      rw (h .0)
+      (exactly-unless true (Pair p) (λ e j l q. clash (rw (eq-eqb _ _ (q .0), eq-eqb _ _ (q .1))) (h .1 j l))
+      (λ e. clash refl e)
+      (λ n w. n (w .0) (w .1) (w .2))))
+      (λ h.
+      let b = both (h .3) in
+      rw (h .0)
+      (exactly-unless false (Pair p) (λ e. clash e refl) (λ e. (h .1, h .2, (eqb-true _ _ (b .0), eqb-true _ _ (b .1))))
+      (λ n w. n (w .0) (w .1) (w .2))))
 
 module _ (s : Subjobs) (others : Bool) where
-  fits : oneLength s others ≡ true → size s ≤ 128 → judgement s others ≡ Passed → Fit s others
-  fits same m e =
-      let l = one-length s others same in
-      let h =
-      or-else (ranges (release s) (execution s) (deadline s) (critical s) (length (s .releases))) (pairs (job s) (subtask s) (size s))
-      (sym (judged-rest s others same m) ∙ e)
-      in
-      let q = rw (l .releases) at (h .0) in
-      record {
-        lengths = l;
-        few = m;
-        ranges = λ i b.
-            in-range i (release s i) (execution s i) (deadline s i) (critical s i)
-            (all-pass (λ j. rangeAt j (release s j) (execution s j) (deadline s j) (critical s j)) (size s) 0 q i (omega arith) (omega arith));
-        pairs = λ i j a b p q.
-            clash (rw (eq-eqb _ _ p, eq-eqb _ _ q))
-            (none-found (λ k. eqb (job s k) (job s j) && eqb (subtask s k) (subtask s j)) j 0
-            (unless (seenEarlier (job s) (subtask s) j) (Pair j) Passed
-            (all-pass (pairAt (job s) (subtask s)) (size s) 0 (h .1) j (omega arith) (omega arith)) .0)
-            i (omega arith) (omega arith));
-      }
+  few-exactly : Exactly (unless (leb (size s) 128) TooMany) (size s ≤ 128) (λ r. (r ≡ TooMany) × (128 < size s))
+  few-exactly = exactly-unless (leb (size s) 128) TooMany (λ e. omega tests) (λ e. omega tests) (λ a b. omega arith)
+
+  pub judged : Exactly (judgement s others) (Fit s others) (Faulty s others)
+  unfolding judgement
+  judged =
+      exactly-so
+      (exactly-or (exactly-test (oneLength s others) Lengths (one-length s others) (all-one-length s others))
+      (exactly-or few-exactly
+      (exactly-or (exactly-first _ _ _ (range-exactly s) (size s)) (exactly-first _ _ _ (pair-exactly s) (size s)))))
+      (λ h. record { lengths = h .0; few = h .1 .0; ranges = h .1 .1 .0; pairs = λ i j a b e f. h .1 .1 .1 j b i a (e, f) })
+      (λ h. (h .lengths, (h .few, (h .ranges, λ j b i a q. h .pairs i j a b (q .0) (q .1)))))
+      (λ r q.
+      split q (λ h. rw (h .0) (lengths (h .1)))
+      (λ l.
+      split (l .1) (λ h. rw (h .0) (many (l .0) (h .1)))
+      (λ m.
+      split (m .1)
+      (λ h. let o = h .3 in rw (o .1) (range (h .0) (o .0) (l .0) (m .0) (h .1) (h .2) (o .2) (o .3)))
+      (λ a.
+      let w = a .1 in
+      let j = w .3 .1 in
+      rw (w .3 .0)
+      (pair (w .0) (j .0) (l .0) (m .0) (a .0) (w .1) (λ i k a b e f. w .2 k b i a (e, f)) (j .1) (j .2))))))
+      (λ r q.
+      elim q [
+        | lengths n ↦ inl (refl, n)
+        | many l m ↦ inr (l, inl (refl, m))
+        | range p f l m b all before n ↦ inr (l, inr (m, inl (p, b, all, (f, refl, before, n))))
+        | pair p j l m all b once before same ↦
+            inr (l, inr (m, inr (all, (p, b, (λ k h i a q. once i k a h (q .0) (q .1)), (refl, (j, before, same))))))
+      ])
+
+  pub passed-exactly : (judgement s others ≡ Passed) ↔ Fit s others
+  passed-exactly = passing judged
+
+  pub judged-exactly : (r : Reason) → (judgement s others ≡ Refused r) ↔ Faulty s others r
+  judged-exactly = refusing judged
 
   pub fit : judgement s others ≡ Passed → Fit s others
-  fit e =
-      test (oneLength s others)
-      (λ same.
-      test (ltb 128 (size s)) (λ m. refused-passed TooMany (sym (judged-many s others same (omega tests)) ∙ e))
-      (λ m. fits same (omega tests) e))
-      (λ no. refused-passed Lengths (sym (judged-lengths s others no) ∙ e))
+  fit = passed-exactly .0
+
+  pub fit-passes : Fit s others → judgement s others ≡ Passed
+  fit-passes = passed-exactly .1

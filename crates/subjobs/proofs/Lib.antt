@@ -1,6 +1,7 @@
 pub mod Searching
-pub mod Lengths
+pub mod Exactly
 pub mod Fit
 pub mod Reported
 pub mod Differences
 pub mod Bounds
+pub mod LaidOut

@@ -1,15 +1,18 @@
--- Refusals 1 to 4: what is asked of every set before any entry does its work.
+-- Refusals 1 to 4: what is asked of every set before any entry does its work. Checks stand one below the other in the order
+-- in which they are made, those of a set in `judgement`, those of one place in `rangeAt`; a further one is a further line.
+-- What the judgement says of a set with no search in it is in Faults.
 --
+--   unless b r          == refused for r unless b holds
 --   orElse a b          == a's refusal, and b's judgement if a passes
 --   firstRefusal J n    == the refusal of the smallest place below n that J refuses
 --   ifPassed j a f      == a if j passes, f of the reason if it refuses
 --   judgement s others  == refusals 1 to 4 in the order of the numbers
---   values j            == document 01's number and values of a judgement: 0, or the reason's
+--   values j            == number and values of a judgement: 0, or what the reason tells
 use Prim.Native.Nat.{ℕ, zero, suc}
-use mathlib.Core.Bool.{Bool, cond, _&&_, _||_}
+use mathlib.Core.Bool.{Bool, cond, not, _&&_}
 use mathlib.Core.List.{List, [], _∷_}
 use mathlib.Core.Path.{_≡_}
-use lib.Dec.{ltb, eqb}
+use lib.Dec.{leb, eqb}
 use lib.IntN.{ℤ, pos}
 use lib.ListN.{length}
 use Rattle.lists.specs.Search.{some}
@@ -20,6 +23,9 @@ use Rattle.subjobs.specs.declared.Judgement.{Judgement}
 use Rattle.subjobs.specs.declared.Judgement.the-variants.{Passed, Refused}
 use Rattle.subjobs.specs.Reasons as reasons
 use Rattle.subjobs.specs.Sets.{Subjobs, size, job, subtask, release, execution, deadline, critical}
+
+abbrev pub unless : Bool → Reason → Judgement
+unless b r = cond b Passed (Refused r)
 
 abbrev pub orElse : Judgement → Judgement → Judgement
 orElse Passed j = j
@@ -50,11 +56,10 @@ oneLength s others =
 -- 3: a field out of range; the first such field in the order release, execution, deadline, critical time
 abbrev pub rangeAt : (place release execution deadline critical : ℕ) → Judgement
 rangeAt p r c dl z =
-    cond (ltb 1_000_000_000 r) (Refused (Range p Release))
-    (cond (ltb c 1 || ltb 1_000_000 c) (Refused (Range p Execution))
-    (cond (ltb 2_000_000_000 dl) (Refused (Range p Deadline))
-    (cond (ltb 1_000_000_000 z) (Refused (Range p Critical))
-    Passed)))
+    orElse (unless (leb r 1_000_000_000) (Range p Release))
+    (orElse (unless (leb 1 c && leb c 1_000_000) (Range p Execution))
+    (orElse (unless (leb dl 2_000_000_000) (Range p Deadline))
+    (unless (leb z 1_000_000_000) (Range p Critical))))
 
 abbrev pub ranges : (r c dl z : ℕ → ℕ) → ℕ → Judgement
 ranges r c dl z n = firstRefusal (λ i. rangeAt i (r i) (c i) (dl i) (z i)) n
@@ -64,18 +69,18 @@ abbrev pub seenEarlier : (job subtask : ℕ → ℕ) → ℕ → Bool
 seenEarlier job subtask i = some (λ j. eqb (job j) (job i) && eqb (subtask j) (subtask i)) i
 
 abbrev pub pairAt : (job subtask : ℕ → ℕ) → ℕ → Judgement
-pairAt job subtask p = cond (seenEarlier job subtask p) (Refused (Pair p)) Passed
+pairAt job subtask p = unless (not (seenEarlier job subtask p)) (Pair p)
 
 abbrev pub pairs : (job subtask : ℕ → ℕ) → ℕ → Judgement
 pairs job subtask n = firstRefusal (pairAt job subtask) n
 
--- Checks run in the order of the numbers.
+-- Checks run in the order of the numbers. 2: more than 128 sub-jobs
 unfoldable pub judgement : Subjobs → Bool → Judgement
 judgement s others =
-    cond (oneLength s others)
-    (cond (ltb 128 (size s)) (Refused TooMany)
-    (orElse (ranges (release s) (execution s) (deadline s) (critical s) (size s)) (pairs (job s) (subtask s) (size s))))
-    (Refused Lengths)
+    orElse (unless (oneLength s others) Lengths)
+    (orElse (unless (leb (size s) 128) TooMany)
+    (orElse (ranges (release s) (execution s) (deadline s) (critical s) (size s))
+    (pairs (job s) (subtask s) (size s))))
 
 -- What `judge` is held to.
 abbrev pub Judges : Subjobs → Bool → Judgement → Type 0

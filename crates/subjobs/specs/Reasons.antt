@@ -1,11 +1,10 @@
--- What document 01's table of refusals says of each reason.
+-- The table of refusals: what each reason tells.
 --
---   numberOf r     == the number a refusal carries
---   placeOf r      == the place reported
---   fieldOf r      == the field that number 3 reports: 1 release, 2 execution, 3 deadline, 4 critical time
---   completionOf r == the completion that number 5 reports
---   boundOf r      == the upper bound that number 5 reports
---   values r       == all of these, in this order
+--   at n p       == number n and place p, with no further detail
+--   tell r       == what the reason r tells: a line of the table
+--   numberOf r, placeOf r == its number and its place
+--   fieldNumber f == the number by which number 3 reports a field; a name, which says nothing of the order of looking
+--   values r     == all that it tells: number, place, field, completion, bound
 use Prim.Native.Nat.{ℕ}
 use lib.IntN.{ℤ, pos}
 use mathlib.Core.List.{List, [], _∷_}
@@ -13,32 +12,10 @@ use Rattle.subjobs.specs.declared.Field.{Field}
 use Rattle.subjobs.specs.declared.Field.the-variants.{Release, Execution, Deadline, Critical}
 use Rattle.subjobs.specs.declared.Reason.{Reason}
 use Rattle.subjobs.specs.declared.Reason.the-variants.{Lengths, TooMany, Range, Pair, Late, Unmet, Missed, Totals, TextTooLong, Header, Malformed}
+use Rattle.subjobs.specs.declared.Told.{Told}
 
-abbrev pub numberOf : Reason → ℕ
-numberOf Lengths = 1
-numberOf TooMany = 2
-numberOf (Range p f) = 3
-numberOf (Pair p) = 4
-numberOf (Late p m b) = 5
-numberOf (Unmet p) = 6
-numberOf (Missed p) = 7
-numberOf Totals = 8
-numberOf TextTooLong = 10
-numberOf Header = 11
-numberOf (Malformed l) = 12
-
-abbrev pub placeOf : Reason → ℕ
-placeOf Lengths = 0
-placeOf TooMany = 0
-placeOf (Range p f) = p
-placeOf (Pair p) = p
-placeOf (Late p m b) = p
-placeOf (Unmet p) = p
-placeOf (Missed p) = p
-placeOf Totals = 0
-placeOf TextTooLong = 0
-placeOf Header = 1
-placeOf (Malformed l) = l
+abbrev pub at : (number place : ℕ) → Told
+at n p = record { number = n; place = p; field = 0; completion = 0; bound = pos 0 }
 
 abbrev pub fieldNumber : Field → ℕ
 fieldNumber Release = 1
@@ -46,44 +23,24 @@ fieldNumber Execution = 2
 fieldNumber Deadline = 3
 fieldNumber Critical = 4
 
-abbrev pub fieldOf : Reason → ℕ
-fieldOf Lengths = 0
-fieldOf TooMany = 0
-fieldOf (Range p f) = fieldNumber f
-fieldOf (Pair p) = 0
-fieldOf (Late p m b) = 0
-fieldOf (Unmet p) = 0
-fieldOf (Missed p) = 0
-fieldOf Totals = 0
-fieldOf TextTooLong = 0
-fieldOf Header = 0
-fieldOf (Malformed l) = 0
+abbrev pub tell : Reason → Told
+tell Lengths = at 1 0
+tell TooMany = at 2 0
+tell (Range p f) = record { number = 3; place = p; field = fieldNumber f; completion = 0; bound = pos 0 }
+tell (Pair p) = at 4 p
+tell (Late p m b) = record { number = 5; place = p; field = 0; completion = m; bound = b }
+tell (Unmet p) = at 6 p
+tell (Missed p) = at 7 p
+tell Totals = at 8 0
+tell TextTooLong = at 10 0
+tell Header = at 11 1
+tell (Malformed l) = at 12 l
 
-abbrev pub completionOf : Reason → ℕ
-completionOf Lengths = 0
-completionOf TooMany = 0
-completionOf (Range p f) = 0
-completionOf (Pair p) = 0
-completionOf (Late p m b) = m
-completionOf (Unmet p) = 0
-completionOf (Missed p) = 0
-completionOf Totals = 0
-completionOf TextTooLong = 0
-completionOf Header = 0
-completionOf (Malformed l) = 0
+abbrev pub numberOf : Reason → ℕ
+numberOf r = tell r .number
 
-abbrev pub boundOf : Reason → ℤ
-boundOf Lengths = pos 0
-boundOf TooMany = pos 0
-boundOf (Range p f) = pos 0
-boundOf (Pair p) = pos 0
-boundOf (Late p m b) = b
-boundOf (Unmet p) = pos 0
-boundOf (Missed p) = pos 0
-boundOf Totals = pos 0
-boundOf TextTooLong = pos 0
-boundOf Header = pos 0
-boundOf (Malformed l) = pos 0
+abbrev pub placeOf : Reason → ℕ
+placeOf r = tell r .place
 
 abbrev pub values : Reason → List ℤ
-values r = pos (numberOf r) ∷ pos (placeOf r) ∷ pos (fieldOf r) ∷ pos (completionOf r) ∷ boundOf r ∷ []
+values r = pos (tell r .number) ∷ pos (tell r .place) ∷ pos (tell r .field) ∷ pos (tell r .completion) ∷ tell r .bound ∷ []

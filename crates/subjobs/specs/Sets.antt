@@ -1,17 +1,14 @@
 -- A set of sub-jobs is six lists of numbers, one place per sub-job. The rules speak of a sub-job
--- through functions of its place, and take those functions and not the set: who has other releases
--- or takes something else off the deadline hands in other functions.
+-- through functions of its place.
 --
 --   size s            == how many sub-jobs the set has
 --   job s i, subtask s i, release s i, execution s i, deadline s i, critical s i == the six fields at place i
---   bound dl z i      == the upper bound of place i, signed: its deadline less what is taken off it
---   slack dl z d i    == its upper bound minus its local deadline
---   byBound dl z i j  == the upper bound of i is below that of j
+--   withheld s i      == what is taken off the deadline of place i for its upper bound
+--   byBound dl z i j  == the upper bound of i, dl i less z i, is below that of j
 use Prim.Native.Nat.{ℕ, _+_}
 use mathlib.Core.Bool.{Bool}
 use mathlib.Core.List.{List}
 use lib.Dec.{ltb}
-use lib.IntN.{ℤ, pos, subℕ, _-ℤ_}
 use lib.ListN.{length, getD}
 
 -- A sub-job has six unsigned 32-bit numbers, held in six lent lists, one place per sub-job.
@@ -48,13 +45,9 @@ deadline s i = getD (s .deadlines) i 0
 abbrev pub critical : Subjobs → ℕ → ℕ
 critical s i = getD (s .criticals) i 0
 
--- The upper bound is deadline minus critical time. It is signed and is not cut off at zero.
-abbrev pub bound : (ℕ → ℕ) → (ℕ → ℕ) → ℕ → ℤ
-bound dl z i = subℕ (dl i) (z i)
-
--- The slack is upper bound minus local deadline.
-abbrev pub slack : (ℕ → ℕ) → (ℕ → ℕ) → (ℕ → ℕ) → ℕ → ℤ
-slack dl z d i = bound dl z i -ℤ pos (d i)
+-- The upper bound is deadline minus critical time.
+abbrev pub withheld : Subjobs → ℕ → ℕ
+withheld s = critical s
 
 -- Upper bounds are compared by cross sums, which no sign disturbs: dl i - z i < dl j - z j.
 abbrev pub byBound : (ℕ → ℕ) → (ℕ → ℕ) → ℕ → ℕ → Bool

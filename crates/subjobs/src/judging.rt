@@ -18,7 +18,11 @@ pub(crate) fn one_length(
     criticals: &[u32],
     others: bool,
 ) -> bool
-    ensures { λ r. ⌜ r ≡ oneLength (subjobs (now (jobs .entry)) (now (subtasks .entry)) (now (releases .entry)) (now (executions .entry)) (now (deadlines .entry)) (now (criticals .entry))) others ⌝ }
+    ensures { λ r. ⌜
+        r ≡ oneLength
+        (subjobs (now (jobs .entry)) (now (subtasks .entry)) (now (releases .entry))
+        (now (executions .entry)) (now (deadlines .entry)) (now (criticals .entry)))
+        others ⌝ }
 {
     let n = jobs.len();
     (subtasks.len() == n)
@@ -39,7 +43,7 @@ fn range_at(place: usize, release: u32, execution: u32, deadline: u32, critical:
             field: Field::Release,
         });
     }
-    if (execution < 1) | (1_000_000 < execution) {
+    if !((1 <= execution) & (execution <= 1_000_000)) {
         return Judgement::Refused(Reason::Range {
             place,
             field: Field::Execution,
@@ -67,8 +71,15 @@ pub(crate) fn ranges(
     deadlines: &[u32],
     criticals: &[u32],
 ) -> Judgement
-    requires { ⌜ (length (now executions) ≡ length (now releases)) × (length (now deadlines) ≡ length (now releases)) × (length (now criticals) ≡ length (now releases)) ⌝ }
-    ensures { λ r. ⌜ r ≡ ranges (λ i. getD (now (releases .entry)) i 0) (λ i. getD (now (executions .entry)) i 0) (λ i. getD (now (deadlines .entry)) i 0) (λ i. getD (now (criticals .entry)) i 0) (length (now (releases .entry))) ⌝ }
+    requires { ⌜
+        (length (now executions) ≡ length (now releases))
+        × (length (now deadlines) ≡ length (now releases))
+        × (length (now criticals) ≡ length (now releases)) ⌝ }
+    ensures { λ r. ⌜
+        r ≡ ranges
+        (λ i. getD (now (releases .entry)) i 0) (λ i. getD (now (executions .entry)) i 0)
+        (λ i. getD (now (deadlines .entry)) i 0) (λ i. getD (now (criticals .entry)) i 0)
+        (length (now (releases .entry))) ⌝ }
 {
     let mut i = 0;
     while i < releases.len() {
@@ -84,7 +95,9 @@ pub(crate) fn ranges(
 // Whether the pair at a place stands at an earlier place too.
 fn seen_earlier(jobs: &[u32], subtasks: &[u32], place: usize) -> bool
     requires { ⌜ (length (now subtasks) ≡ length (now jobs)) × (place < length (now jobs)) ⌝ }
-    ensures { λ r. ⌜ r ≡ seenEarlier (λ i. getD (now (jobs .entry)) i 0) (λ i. getD (now (subtasks .entry)) i 0) place ⌝ }
+    ensures { λ r. ⌜
+        r ≡ seenEarlier
+        (λ i. getD (now (jobs .entry)) i 0) (λ i. getD (now (subtasks .entry)) i 0) place ⌝ }
 {
     let mut j = place;
     while 0 < j {
@@ -99,7 +112,10 @@ fn seen_earlier(jobs: &[u32], subtasks: &[u32], place: usize) -> bool
 // The smallest place whose pair stands at an earlier place. Before place 0 there is none.
 pub(crate) fn pairs(jobs: &[u32], subtasks: &[u32]) -> Judgement
     requires { ⌜ length (now subtasks) ≡ length (now jobs) ⌝ }
-    ensures { λ r. ⌜ r ≡ pairs (λ i. getD (now (jobs .entry)) i 0) (λ i. getD (now (subtasks .entry)) i 0) (length (now (jobs .entry))) ⌝ }
+    ensures { λ r. ⌜
+        r ≡ pairs
+        (λ i. getD (now (jobs .entry)) i 0) (λ i. getD (now (subtasks .entry)) i 0)
+        (length (now (jobs .entry))) ⌝ }
 {
     let mut i = 1;
     while i < jobs.len() {

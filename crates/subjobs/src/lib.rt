@@ -1,12 +1,12 @@
 // A set of sub-jobs, six lent lists of 32-bit numbers, and the reasons for which a set is refused.
 ghost use mathlib.Core.Path.{_≡_};
-ghost use Rattle.subjobs.specs.Reasons.{numberOf, placeOf, fieldOf, completionOf, boundOf};
+ghost use Rattle.subjobs.specs.Reasons.{at, fieldNumber, tell};
 ghost use Rattle.subjobs.specs.Sets.{subjobs};
 ghost use Rattle.subjobs.specs.Judging.{Judges};
 
 mod judging;
 
-// A field with a range of its own, in the order in which the fields are looked at.
+// A field with a range of its own. The order in which they are looked at is that of `judging::range_at`.
 pub enum Field {
     Release,
     Execution,
@@ -14,7 +14,7 @@ pub enum Field {
     Critical,
 }
 
-// Why a set, a run, a proposal or a text is refused, with what document 01's table reports of it.
+// Why a set, a run, a proposal or a text is refused, with the details that the table of refusals reports.
 pub enum Reason {
     Lengths,
     TooMany,
@@ -50,123 +50,72 @@ pub enum Judgement {
     Refused(Reason),
 }
 
-// The number of a reason in document 01's table.
-pub fn number_of(reason: Reason) -> u32
-    ensures { λ r. ⌜ r ≡ numberOf reason ⌝ }
+// What the table of refusals says of a reason: number, place and details, 0 for a detail it does not carry.
+pub struct Told {
+    pub number: u32,
+    pub place: usize,
+    pub field: u32,
+    pub completion: u32,
+    pub bound: i64,
+}
+
+// A reason that carries no detail but a place.
+fn at(number: u32, place: usize) -> Told
+    ensures { λ r. ⌜ r ≡ at number place ⌝ }
 {
-    match reason {
-        Reason::Lengths => 1,
-        Reason::TooMany => 2,
-        Reason::Range { place: _, field: _ } => 3,
-        Reason::Pair { place: _ } => 4,
-        Reason::Late {
-            place: _,
-            completion: _,
-            bound: _,
-        } => 5,
-        Reason::Unmet { place: _ } => 6,
-        Reason::Missed { place: _ } => 7,
-        Reason::Totals => 8,
-        Reason::TextTooLong => 10,
-        Reason::Header => 11,
-        Reason::Malformed { line: _ } => 12,
+    Told {
+        number,
+        place,
+        field: 0,
+        completion: 0,
+        bound: 0,
     }
 }
 
-// The place reported with it: a place of the list, or a line of a text.
-pub fn place_of(reason: Reason) -> usize
-    ensures { λ r. ⌜ r ≡ placeOf reason ⌝ }
+// The number by which number 3 reports a field.
+fn field_number(field: Field) -> u32
+    ensures { λ r. ⌜ r ≡ fieldNumber field ⌝ }
+{
+    match field {
+        Field::Release => 1,
+        Field::Execution => 2,
+        Field::Deadline => 3,
+        Field::Critical => 4,
+    }
+}
+
+// The table of refusals, a line per reason.
+pub fn tell(reason: Reason) -> Told
+    ensures { λ r. ⌜ r ≡ tell reason ⌝ }
 {
     match reason {
-        Reason::Lengths => 0,
-        Reason::TooMany => 0,
-        Reason::Range { place, field: _ } => place,
-        Reason::Pair { place } => place,
+        Reason::Lengths => at(1, 0),
+        Reason::TooMany => at(2, 0),
+        Reason::Range { place, field } => Told {
+            number: 3,
+            place,
+            field: field_number(field),
+            completion: 0,
+            bound: 0,
+        },
+        Reason::Pair { place } => at(4, place),
         Reason::Late {
             place,
-            completion: _,
-            bound: _,
-        } => place,
-        Reason::Unmet { place } => place,
-        Reason::Missed { place } => place,
-        Reason::Totals => 0,
-        Reason::TextTooLong => 0,
-        Reason::Header => 1,
-        Reason::Malformed { line } => line,
-    }
-}
-
-// The field that number 3 reports, counted from 1 in the order of the fields; 0 for every other reason.
-pub fn field_of(reason: Reason) -> u32
-    ensures { λ r. ⌜ r ≡ fieldOf reason ⌝ }
-{
-    match reason {
-        Reason::Range { place: _, field } => match field {
-            Field::Release => 1,
-            Field::Execution => 2,
-            Field::Deadline => 3,
-            Field::Critical => 4,
-        },
-        Reason::Lengths => 0,
-        Reason::TooMany => 0,
-        Reason::Pair { place: _ } => 0,
-        Reason::Late {
-            place: _,
-            completion: _,
-            bound: _,
-        } => 0,
-        Reason::Unmet { place: _ } => 0,
-        Reason::Missed { place: _ } => 0,
-        Reason::Totals => 0,
-        Reason::TextTooLong => 0,
-        Reason::Header => 0,
-        Reason::Malformed { line: _ } => 0,
-    }
-}
-
-// The completion that number 5 reports; 0 for every other reason.
-pub fn completion_of(reason: Reason) -> u32
-    ensures { λ r. ⌜ r ≡ completionOf reason ⌝ }
-{
-    match reason {
-        Reason::Late {
-            place: _,
             completion,
-            bound: _,
-        } => completion,
-        Reason::Lengths => 0,
-        Reason::TooMany => 0,
-        Reason::Range { place: _, field: _ } => 0,
-        Reason::Pair { place: _ } => 0,
-        Reason::Unmet { place: _ } => 0,
-        Reason::Missed { place: _ } => 0,
-        Reason::Totals => 0,
-        Reason::TextTooLong => 0,
-        Reason::Header => 0,
-        Reason::Malformed { line: _ } => 0,
-    }
-}
-
-// The upper bound that number 5 reports, signed; 0 for every other reason.
-pub fn bound_of(reason: Reason) -> i64
-    ensures { λ r. ⌜ r ≡ boundOf reason ⌝ }
-{
-    match reason {
-        Reason::Late {
-            place: _,
-            completion: _,
             bound,
-        } => bound,
-        Reason::Lengths => 0,
-        Reason::TooMany => 0,
-        Reason::Range { place: _, field: _ } => 0,
-        Reason::Pair { place: _ } => 0,
-        Reason::Unmet { place: _ } => 0,
-        Reason::Missed { place: _ } => 0,
-        Reason::Totals => 0,
-        Reason::TextTooLong => 0,
-        Reason::Header => 0,
-        Reason::Malformed { line: _ } => 0,
+        } => Told {
+            number: 5,
+            place,
+            field: 0,
+            completion,
+            bound,
+        },
+        Reason::Unmet { place } => at(6, place),
+        Reason::Missed { place } => at(7, place),
+        Reason::Totals => at(8, 0),
+        Reason::TextTooLong => at(10, 0),
+        Reason::Header => at(11, 1),
+        Reason::Malformed { line } => at(12, line),
     }
 }
 
@@ -181,7 +130,11 @@ pub fn judge(
     criticals: &[u32],
     others: bool,
 ) -> Judgement
-    ensures { λ r. ⌜ Judges (subjobs (now (jobs .entry)) (now (subtasks .entry)) (now (releases .entry)) (now (executions .entry)) (now (deadlines .entry)) (now (criticals .entry))) others r ⌝ }
+    ensures { λ r. ⌜
+        Judges
+        (subjobs (now (jobs .entry)) (now (subtasks .entry)) (now (releases .entry))
+        (now (executions .entry)) (now (deadlines .entry)) (now (criticals .entry)))
+        others r ⌝ }
 {
     let n = jobs.len();
     if !judging::one_length(

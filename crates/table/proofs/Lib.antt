@@ -1,12 +1,7 @@
-pub mod Scanning
 pub mod Filling
-pub mod Stored
+pub mod Exactly
 pub mod Printing
 pub mod Outcomes
-pub mod RefusedAt
 pub mod Longest
-pub mod Accepting
-pub mod RoundTrip
 pub mod OneLine
-pub mod OnlyTables
-pub mod Worked
+pub mod RoundTrip

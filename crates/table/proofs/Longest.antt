@@ -1,49 +1,32 @@
--- The longest answer: a header of 35 bytes and 128 lines of at most 56.
-use Prim.Native.Nat.{ℕ, zero, suc, _+_, _*_, _-_, _<_, _≤_}
-use mathlib.Core.List.{List, [], _∷_, _++_}
-use mathlib.Core.Path.{_≡_, refl}
+-- The longest answer: a header of 35 bytes and 128 lines of at most 56. So there is always room for it.
+use Prim.Native.Nat.{ℕ, zero, suc, _+_, _*_, _<_, _≤_}
+use mathlib.Core.List.{List, [], _∷_}
+use mathlib.Core.Path.{_≡_, refl, sym, _∙_}
+use native.Mathlib.Nat.{zero-add}
 use native.Mathlib.Omega.{arith}
-use lib.IntN.{pos}
-use lib.ListN.{length, getD, replicate, length-append, length-map, length-replicate}
-use lib.Dec.{ltb}
+use lib.ListN.{length, replicate, length-append, length-map, length-replicate, getD}
+use lib.Seq.{sets-eq, length-sets, length-take-le}
 use Rattle.lists.specs.Places.{from}
-use Rattle.lists.proofs.Cases.{test, tests}
 use Rattle.subjobs.specs.declared.Reason.{Reason}
 use Rattle.subjobs.specs.declared.Judgement.{Judgement}
 use Rattle.subjobs.specs.declared.Judgement.the-variants as judgement
 use Rattle.subjobs.specs.Reasons.{numberOf}
-use Rattle.subjobs.specs.Sets.{Subjobs, size, job, subtask, deadline, critical}
+use Rattle.subjobs.specs.Sets.{Subjobs, size}
 use Rattle.subjobs.specs.Judging.{ifPassed}
 use Rattle.olda.specs.Answers as olda
 use Rattle.ticks.specs.Runs as ticks
-use Rattle.table.specs.declared.Written.the-variants.{Bytes, NoRoom}
-use Rattle.table.specs.declared.reading.Row.{Row}
-use Rattle.table.specs.Reading.{Parsed, records, refused, read, setOf}
-use Rattle.table.specs.Writing.{decimal, crlf, parted, lineOf, printedLine, refusal}
-use Rattle.table.specs.Stores.{Sound}
-use Rattle.table.specs.Answers.{lineAt, joined, accepted, verdictOf, tabled, onParsed, answer, written}
-use Rattle.table.proofs.Stored.{figures-length}
-use Rattle.table.proofs.Printing.{line-is}
-use Rattle.table.proofs.Outcomes.{in-time, accepted-sound}
-use Rattle.table.proofs.RefusedAt.{Within, read-within}
-
-parted-length : (x : ℕ) → length (parted x) ≤ 11
-parted-length x = omega (arith, length-append (decimal x) (44 ∷ []), figures-length 10 x)
-
-last-length : (x : ℕ) → length (decimal x ++ crlf) ≤ 12
-last-length x = omega (arith, length-append (decimal x) crlf, figures-length 10 x)
+use Rattle.text.specs.Writing.{Wrote}
+use Rattle.text.proofs.Printed.{line-length}
+use Rattle.table.specs.Format.{Parsed, records, refused}
+use Rattle.table.specs.Reading.{read, setOf}
+use Rattle.table.specs.Writing.{printedLine, refusal}
+use Rattle.table.specs.Answers.{lineAt, joined, accepted, verdictOf, tabled, onParsed, answer, Tables, Counts}
+use Rattle.table.proofs.Printing.{numbers, line-of, refusal-is}
+use Rattle.table.proofs.Outcomes.{Sound, in-time, accepted-sound}
+use Rattle.table.proofs.Exactly.{Within, read-within}
 
 refusal-length : (r : Reason) → length (refusal r) ≤ 31
-unfolding refusal
-refusal-length r =
-    omega
-    (arith, length-append (parted (numberOf r)) (decimal (printedLine r) ++ crlf), parted-length (numberOf r), last-length (printedLine r))
-
-line-length : (j k d f x : ℕ) → length (lineOf j k d f (pos x)) ≤ 56
-unfolding lineOf
-line-length j k d f x =
-    simp (length-append (parted j), length-append (parted k), length-append (parted d), length-append (parted f))
-    (omega (arith, parted-length j, parted-length k, parted-length d, parted-length f, last-length x))
+refusal-length r = rw (refusal-is r) (omega (arith, line-length (numberOf r ∷ printedLine r ∷ [])))
 
 joined-length : (f : ℕ → List ℕ) (a n : ℕ) → ((i : ℕ) → i < a + n → length (f i) ≤ 56) → length (joined f (from a n)) ≤ 56 * n
 unfolding joined from
@@ -59,7 +42,7 @@ accepted-length s ds w =
     omega (
       arith,
       joined-length (lineAt s ds fs) 0 (size s)
-          (λ i l. rw (line-is s ds fs i (in-time s ds w i (omega arith))) (line-length (job s i) (subtask s i) (getD ds i 0) (getD fs i 0) (deadline s i - critical s i - getD ds i 0))),
+          (λ i l. rw (line-of s ds fs i (in-time s ds w i (omega arith))) (line-length (numbers s ds fs i))),
     )
 
 tabled-length : (s : Subjobs) → size s ≤ 128 → length (tabled s) ≤ 7_203
@@ -76,16 +59,20 @@ pub answer-length : (text : List ℕ) → length (answer text) ≤ 7_203
 unfolding answer
 answer-length text = by (read text) (read-within text)
   where
-    by : (p : Parsed) → Within 128 p → length (onParsed p) ≤ 7_203
-    by (records rows) h = tabled-length (setOf rows) (omega (arith, length-map rows (λ (r : Row). r .job)))
+    by : (p : Parsed) → Within p → length (onParsed p) ≤ 7_203
+    by (records rows) h = tabled-length (setOf rows) (omega (arith, length-map rows (λ (r : List ℕ). getD r 0 0)))
     by (refused r) h = omega (arith, refusal-length r)
 
--- What is written lies in the output: a caller may lend that part on.
-pub written-fits : (text : List ℕ) (n k : ℕ) → written text n ≡ Bytes k → k ≤ n
-written-fits text n k e =
-    test (ltb n 7_203)
-    (λ y. let w : NoRoom ≡ Bytes k = rw y at e in let z : _≡_ {A = ℕ} 0 1 = cc in absurd (omega arith))
-    (λ y.
-    let w : Bytes (length (answer text)) ≡ Bytes k = rw y at e in
-    let q : length (answer text) ≡ k = cc in
-    omega (tests, answer-length text))
+-- An answer that was written into an output of that size stands there whole.
+pub answer-written :
+    (text : List ℕ) {out out′ : List ℕ} {r : ℕ} → length out ≡ 7_203 → Wrote out 0 (answer text) out′ r → Tables text out r out′ × Counts r out′
+answer-written text {out} {out′} {r} l w =
+    let h = answer-length text in
+    let e = zero-add (length (answer text)) in
+    let c : r ≤ length out′ = rw (w .text, length-sets out 0 (answer text)) (omega (arith, w .next)) in (
+      record {
+        count = omega (arith, w .next);
+        bytes = w .text ∙ sets-eq (answer text) out 0 (omega arith) ∙ rw e;
+      },
+      (c, sym (length-take-le r out′ c)),
+    )

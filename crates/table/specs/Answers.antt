@@ -1,37 +1,40 @@
 -- What a table is answered: text in, text out.
 --
---   lineAt s ds fs i  == the line of place i, ds the local deadlines and fs the finishes
---   joined f xs       == f of each place of xs, one behind the other
---   accepted s ds     == the whole output for an accepted set
---   verdictOf a       == whether the assignment's answer a is acceptance
---   tabled s          == the whole output for a set
---   answer text       == the whole output for a text
---   written text n    == what `table` answers, for an output of n bytes
---   outcome text out  == what the output holds afterwards, if it held out before
-use Prim.Native.Nat.{ℕ}
-use mathlib.Core.Bool.{cond}
+--   slackAt s ds i         == the slack of place i, ds the local deadlines
+--   lineAt s ds fs i       == the line of place i, fs the finishes
+--   joined f xs            == f of each place of xs, one behind the other
+--   accepted s ds          == the whole output for an accepted set
+--   verdictOf a            == whether the assignment's answer a is acceptance, and why not
+--   tabled s               == the whole output for a set
+--   answer text            == the whole output for a text
+--   Tables text out r out′ == what `table` is held to
+--   Counts k l             == k counts bytes at the start of l
+use Prim.Native.Nat.{ℕ, _≤_}
 use mathlib.Core.List.{List, [], _∷_, _++_}
 use mathlib.Core.Path.{_≡_}
-use lib.Dec.{ltb}
-use lib.ListN.{length, getD, drop, replicate}
+use lib.IntN.{ℤ}
+use lib.ListN.{length, getD, take, drop, replicate}
 use Rattle.lists.specs.Places.{places}
 use Rattle.subjobs.specs.declared.Judgement.{Judgement}
 use Rattle.subjobs.specs.declared.Judgement.the-variants as judgement
-use Rattle.subjobs.specs.Sets.{Subjobs, size, job, subtask, deadline, critical, slack}
+use Rattle.subjobs.specs.Sets.{Subjobs, size, job, subtask}
+use Rattle.subjobs.specs.Terms.{terms, slack}
 use Rattle.subjobs.specs.Judging.{ifPassed}
 use Rattle.olda.specs.declared.Answer.{Answer}
 use Rattle.olda.specs.declared.Answer.the-variants as olda-answer
 use Rattle.olda.specs.Answers as olda
 use Rattle.ticks.specs.Runs as ticks
-use Rattle.table.specs.declared.Written.{Written}
-use Rattle.table.specs.declared.Written.the-variants.{Bytes, NoRoom}
-use Rattle.table.specs.Reading.{Parsed, records, refused, read, setOf}
+use Rattle.table.specs.Format.{Parsed, records, refused}
+use Rattle.table.specs.Reading.{read, setOf}
 use Rattle.table.specs.Writing.{lineOf, outHeader, refusal}
+
+-- The slack is upper bound minus local deadline.
+abbrev pub slackAt : Subjobs → List ℕ → ℕ → ℤ
+slackAt s ds i = slack (terms s) (λ j. getD ds j 0) i
 
 -- job, subtask, local deadline, finish, slack
 abbrev pub lineAt : Subjobs → List ℕ → List ℕ → ℕ → List ℕ
-lineAt s ds fs i =
-    lineOf (job s i) (subtask s i) (getD ds i 0) (getD fs i 0) (slack (deadline s) (critical s) (λ j. getD ds j 0) i)
+lineAt s ds fs i = lineOf (job s i) (subtask s i) (getD ds i 0) (getD fs i 0) (slackAt s ds i)
 
 unfoldable pub joined : (ℕ → List ℕ) → List ℕ → List ℕ
 joined f [] = []
@@ -58,14 +61,12 @@ onParsed (refused r) = refusal r
 unfoldable pub answer : List ℕ → List ℕ
 answer text = onParsed (read text)
 
--- An output with less room than any answer can take, a header of 35 bytes and 128 lines of at most 56, is left as it was.
-abbrev pub written : List ℕ → ℕ → Written
-written text n = cond (ltb n 7_203) NoRoom (Bytes (length (answer text)))
+-- What `table` is held to: how many bytes the answer has, and that the output holds it in its first bytes and what it
+-- held before in the rest.
+pub record Tables (text out : List ℕ) (r : ℕ) (out′ : List ℕ) : Type 0 where
+  pub count : r ≡ length (answer text)
+  pub bytes : out′ ≡ answer text ++ drop (length (answer text)) out
 
--- Otherwise the answer stands in its first bytes, and the rest stays as it was.
-abbrev pub outcome : List ℕ → List ℕ → List ℕ
-outcome text out = cond (ltb (length out) 7_203) out (answer text ++ drop (length (answer text)) out)
-
--- What `table` is held to: what it says it wrote, and what the output holds afterwards.
-abbrev pub Tables : (text out : List ℕ) → Written → List ℕ → Type 0
-Tables text out r out′ = (r ≡ written text (length out)) × (out′ ≡ outcome text out)
+-- k bytes at the start of a list, which may be lent on by themselves. The second part follows from the first.
+abbrev pub Counts : ℕ → List ℕ → Type 0
+Counts k l = (k ≤ length l) × (k ≡ length (take k l))

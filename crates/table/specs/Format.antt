@@ -1,73 +1,68 @@
--- The format of a table, told as document 01 tells it and with no order of reading. That the reader of Reading.antt
--- takes exactly these texts, and finds these records in them, is a theorem.
+-- The format of a table as RULES tells it. That the reader of Reading.antt finds in every text what is said here, and
+-- nothing else, is a theorem.
 --
---   Digit b          == b is the byte of a decimal digit
---   value ds         == the value of a run of digits
---   Number ds v      == 1 to 10 decimal digits, leading zeros allowed, of value v at most 4,294,967,295
---   Field w v        == a number, bare or in double quotes
---   Record w row     == six fields, parted by commas
---   Lines w rows     == what follows the first line: the end of a line and the records of the next ones
---   Rows             == lists of records
---   Table text rows  == a text of at most 16,384 bytes with at most 128 records
-use Prim.Native.Nat.{ℕ, _+_, _*_, _-_, _≤_}
+--   header             == the first line
+--   fields             == how many fields a record has
+--   Rows               == the records of a table, each the list of its numbers in the header's order
+--   Parsed             == what a text is read as: all its records, or the reason for which it is refused
+--   Records s rows t   == s begins with the lines of these records, and t is what follows them
+--   Begins text rows t == a text begins with the header and the lines of these records, and t is what follows them
+--   Reads text p       == the text is read as p
+use Prim.Native.Nat.{ℕ, _+_, _<_, _≤_}
 use mathlib.Core.List.{List, [], _∷_, _++_}
+use mathlib.Core.Logic.{_≢_}
 use mathlib.Core.Path.{_≡_}
 use lib.ListN.{length}
-use Rattle.lists.specs.Places.{Every}
-use Rattle.table.specs.declared.reading.Row.{Row}
-use Rattle.table.specs.Reading.{header}
+use Rattle.text.specs.Format.{Line, First}
+use Rattle.subjobs.specs.declared.Reason.{Reason}
+use Rattle.subjobs.specs.declared.Reason.the-variants as reason
 
-abbrev pub Digit : ℕ → Type 0
-Digit b = (48 ≤ b) × (b ≤ 57)
+-- job,subtask,release,execution,deadline,critical
+abbrev pub header : List ℕ
+header =
+    106 ∷ 111 ∷ 98 ∷ 44 ∷
+    115 ∷ 117 ∷ 98 ∷ 116 ∷ 97 ∷ 115 ∷ 107 ∷ 44 ∷
+    114 ∷ 101 ∷ 108 ∷ 101 ∷ 97 ∷ 115 ∷ 101 ∷ 44 ∷
+    101 ∷ 120 ∷ 101 ∷ 99 ∷ 117 ∷ 116 ∷ 105 ∷ 111 ∷ 110 ∷ 44 ∷
+    100 ∷ 101 ∷ 97 ∷ 100 ∷ 108 ∷ 105 ∷ 110 ∷ 101 ∷ 44 ∷
+    99 ∷ 114 ∷ 105 ∷ 116 ∷ 105 ∷ 99 ∷ 97 ∷ 108 ∷ []
 
--- after digits of value v
-unfoldable pub valueFrom : ℕ → List ℕ → ℕ
-valueFrom v [] = v
-valueFrom v (d ∷ ds) = valueFrom (v * 10 + (d - 48)) ds
-
-abbrev pub value : List ℕ → ℕ
-value ds = valueFrom 0 ds
-
-pub record Number (ds : List ℕ) (v : ℕ) : Type 0 where
-  pub digits : Every Digit ds
-  pub some : 1 ≤ length ds
-  pub few : length ds ≤ 10
-  pub is : value ds ≡ v
-  pub small : v ≤ 4_294_967_295
-
-pub data Field : List ℕ → ℕ → Type 0 where
-  bare : {ds : List ℕ} {v : ℕ} → Number ds v → Field ds v
-  quoted : {ds : List ℕ} {v : ℕ} → Number ds v → Field (34 ∷ (ds ++ (34 ∷ []))) v
-
--- The header's order.
-pub record Record (w : List ℕ) (row : Row) : Type 0 where
-  pub job : List ℕ
-  pub subtask : List ℕ
-  pub release : List ℕ
-  pub execution : List ℕ
-  pub deadline : List ℕ
-  pub critical : List ℕ
-  pub is-job : Field job (row .job)
-  pub is-subtask : Field subtask (row .subtask)
-  pub is-release : Field release (row .release)
-  pub is-execution : Field execution (row .execution)
-  pub is-deadline : Field deadline (row .deadline)
-  pub is-critical : Field critical (row .critical)
-  pub is : w ≡ job ++ (44 ∷ (subtask ++ (44 ∷ (release ++ (44 ∷ (execution ++ (44 ∷ (deadline ++ (44 ∷ critical)))))))))
-
--- Lines end with CR LF; the last may end with the text instead.
-pub data Lines : List ℕ → List Row → Type 0 where
-  ends : Lines [] []
-  closes : Lines (13 ∷ 10 ∷ []) []
-  line : {w s : List ℕ} {row : Row} {rows : List Row} → Record w row → Lines s rows → Lines (13 ∷ 10 ∷ (w ++ s)) (row ∷ rows)
+-- A record has six fields.
+abbrev pub fields : ℕ
+fields = 6
 
 abbrev pub Rows : Type 0
-Rows = List Row
+Rows = List (List ℕ)
 
--- The first line must be the bytes of the header.
-pub record Table (text : List ℕ) (rows : List Row) : Type 0 where
+pub data Parsed : Type 0 where
+  records : Rows → Parsed
+  refused : Reason → Parsed
+
+pub data Records : List ℕ → Rows → List ℕ → Type 0 where
+  none : {s : List ℕ} → Records s [] s
+  more : {s t u row : List ℕ} {rows : Rows} → Records s rows t → First fields t row u → Records s (rows ++ (row ∷ [])) u
+
+pub record Begins (text : List ℕ) (rows : Rows) (t : List ℕ) : Type 0 where
+  pub short : length text ≤ 16_384
   pub rest : List ℕ
-  pub is : text ≡ header ++ rest
-  pub lines : Lines rest rows
-  pub long : length text ≤ 16_384
-  pub many : length rows ≤ 128
+  pub first : Line header text rest
+  pub read : Records rest rows t
+
+-- Text is judged 10, then 11, then line by line.
+pub data Reads : List ℕ → Parsed → Type 0 where
+  -- 10: table text over 16,384 bytes
+  long : {text : List ℕ} → 16_384 < length text → Reads text (refused reason.TextTooLong)
+  -- 11: first line is not the header
+  headless : {text : List ℕ} → length text ≤ 16_384 → ((t : List ℕ) → Line header text t → ⊥) → Reads text (refused reason.Header)
+  -- 12: the first malformed record; the record at place p is line p + 2
+  malformed :
+      {text t : List ℕ} {rows : Rows}
+      → Begins text rows t
+      → length rows < 128
+      → t ≢ []
+      → ((row u : List ℕ) → First fields t row u → ⊥)
+      → Reads text (refused (reason.Malformed (length rows + 2)))
+  -- 2: the start of a 129th record, any byte after the 128th one's CR LF, its own text unread
+  many : {text t : List ℕ} {rows : Rows} → Begins text rows t → length rows ≡ 128 → t ≢ [] → Reads text (refused reason.TooMany)
+  -- a table of these records
+  table : {text : List ℕ} {rows : Rows} → Begins text rows [] → length rows ≤ 128 → Reads text (records rows)

@@ -1,7 +1,5 @@
-pub mod Reading
 pub mod Format
-pub mod Columns
+pub mod Reading
 pub mod Writing
-pub mod Stores
 pub mod Answers
-pub mod Lines
+pub mod Stores

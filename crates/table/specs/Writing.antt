@@ -1,34 +1,23 @@
 -- The text that comes out. Every output line ends with CR LF.
 --
---   decimal x          == a number of at most 10 digits, in decimal
 --   signed z           == a signed number, in decimal
 --   lineOf j k d f z   == the line of a sub-job: job, subtask, local deadline, finish, slack
 --   outHeader          == the output's first line
+--   lineFor n p        == the line that a refusal with this number and place names
 --   printedLine r      == the line that a refusal names
 --   refusal r          == the one line of a refused text
-use Prim.Native.Nat.{ℕ, zero, suc, _+_, _/_, _%_}
+use Prim.Native.Nat.{ℕ, suc, _+_}
 use mathlib.Core.Bool.{cond, _&&_}
 use mathlib.Core.List.{List, [], _∷_, _++_}
-use lib.Dec.{ltb, leb}
+use lib.Dec.{leb}
 use lib.IntN.{ℤ, pos, negsuc}
+use Rattle.text.specs.Writing.{decimal, crlf}
 use Rattle.subjobs.specs.declared.Reason.{Reason}
 use Rattle.subjobs.specs.Reasons.{numberOf, placeOf}
-
--- at most p digits
-unfoldable pub figures : ℕ → ℕ → List ℕ
-figures zero x = []
-figures (suc p) x = cond (ltb x 10) ((48 + x) ∷ []) (figures p (x / 10) ++ ((48 + x % 10) ∷ []))
-
--- A 32-bit number has at most 10 digits.
-abbrev pub decimal : ℕ → List ℕ
-decimal x = figures 10 x
 
 abbrev pub signed : ℤ → List ℕ
 signed (pos n) = decimal n
 signed (negsuc n) = 45 ∷ decimal (suc n)
-
-abbrev pub crlf : List ℕ
-crlf = 13 ∷ 10 ∷ []
 
 -- a number and a comma
 abbrev pub parted : ℕ → List ℕ
@@ -48,8 +37,11 @@ outHeader =
     115 ∷ 108 ∷ 97 ∷ 99 ∷ 107 ∷ 13 ∷ 10 ∷ []
 
 -- The line for 3, 4 and 5 is that of the record at the place; for the others it is what the table of refusals reports.
+abbrev pub lineFor : (number place : ℕ) → ℕ
+lineFor n p = cond (leb 3 n && leb n 5) (p + 2) p
+
 abbrev pub printedLine : Reason → ℕ
-printedLine r = cond (leb 3 (numberOf r) && leb (numberOf r) 5) (placeOf r + 2) (placeOf r)
+printedLine r = lineFor (numberOf r) (placeOf r)
 
 -- the word refused, the number and the line, parted by commas
 unfoldable pub refusal : Reason → List ℕ

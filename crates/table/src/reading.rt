@@ -1,189 +1,69 @@
-// Reading: from the bytes of a text to six columns, or the reason for which the text is refused.
-ghost use Prim.Native.Nat.{_<_};
+// Reading: from the bytes of a text to the lists of its records, or the reason for which the text is refused.
+// Another field in a record: `fields` and `header` (specs/Format.antt), `row` and the header here, `lists` in lib.rt. The
+// laws are over any number of fields.
+ghost use Prim.Native.Nat.{_*_, _<_, _≤_};
 ghost use mathlib.Core.Path.{_≡_};
-ghost use lib.ListN.{length, getD};
-ghost use Rattle.table.specs.Reading.{numberAt, followed, fieldAt, partedAt, lineEnd, recordAt, starts, afterHeader};
+ghost use mathlib.Core.List.{[]};
+ghost use lib.ListN.{length};
+ghost use Rattle.table.specs.Format.{fields};
+ghost use Rattle.table.specs.Reading.{recordsFrom, read};
+ghost use Rattle.table.specs.Stores.{scattered, Told};
+use subjobs::Reason;
+use text::reading::End;
 
-// A field's number and where its text ends.
-pub(crate) enum Cell {
-    Number(u32, usize),
-    Malformed,
+// How many records were read, or why the text is refused.
+pub(crate) enum Body {
+    Records(usize),
+    Refused(Reason),
 }
 
-// Where the next line begins.
-pub(crate) enum End {
-    Next(usize),
-    Missing,
-}
-
-// The six fields of a record.
-pub(crate) struct Row {
-    pub job: u32,
-    pub subtask: u32,
-    pub release: u32,
-    pub execution: u32,
-    pub deadline: u32,
-    pub critical: u32,
-}
-
-// A record and where the next line begins.
-pub(crate) enum Line {
-    Record(Row, usize),
-    Malformed,
-}
-
-// The byte at i; past the end 0, so that no test for a byte has to ask for the end first.
-fn byte_at(text: &[u8], i: usize) -> u8
-    ensures { λ r. ⌜ r ≡ getD (now (text .entry)) i 0 ⌝ }
-    ensures inside { λ r. ⌜ (0 < r → i < length (now (text .entry))) ⌝ }
+// A record put in at a place of the lists, which stand 128 places apart.
+fn put(lists: &mut [u32], place: usize, row: &[u32])
+    requires { ⌜ (place < 128) × (128 * length (now row) ≤ length (now lists)) ⌝ }
+    ensures { λ _. ⌜ now (lists .exit) ≡ scattered (now (lists .entry)) place (now (row .entry)) ⌝ }
 {
-    if i < text.len() { text[i] } else { 0 }
+    let mut k = 0;
+    while k < row.len() {
+        lists[128 * k + place] = row[k];
+        k += 1;
+    }
 }
 
-fn wide(b: u8) -> u64
-    ensures { λ r. ⌜ r ≡ b ⌝ }
+// The records from `at` on, line by line.
+fn records_from(text: &[u8], at: usize, lists: &mut [u32]) -> Body
+    requires { ⌜ length (now lists) ≡ 128 * fields ⌝ }
+    ensures { λ r. ⌜ Told (recordsFrom 128 [] (now (text .entry)) at) r (now (lists .exit)) ⌝ }
 {
-    b as u64
-}
-
-// The number that begins at `at`. It stops at an 11th digit and at a value too great, which only grow from there.
-fn number_at(text: &[u8], at: usize) -> Cell
-    ensures { λ r. ⌜ r ≡ numberAt (now (text .entry)) at ⌝ }
-{
-    let mut value: u64 = 0;
     let mut count: usize = 0;
     let mut i = at;
     while i < text.len() {
-        let b = text[i];
-        if (b < 48) | (57 < b) {
-            break;
+        if 128 <= count {
+            return Body::Refused(Reason::TooMany);
         }
-        if 10 <= count {
-            return Cell::Malformed;
-        }
-        value = value * 10 + (wide(b) - 48);
+        let mut row = [0u32; 6];
+        let End::Next(next) = text::reading::record_at(text, i, &mut row) else {
+            return Body::Refused(Reason::Malformed { line: count + 2 });
+        };
+        put(lists, count, &row);
         count += 1;
-        i += 1;
-        if 4_294_967_295 < value {
-            return Cell::Malformed;
-        }
+        i = next;
     }
-    if count < 1 {
-        return Cell::Malformed;
-    }
-    Cell::Number(value as u32, i)
+    Body::Records(count)
 }
 
-// The same number, if this byte stands behind it.
-fn followed(text: &[u8], b: u8, cell: Cell) -> Cell
-    requires { ⌜ 0 < b ⌝ }
-    ensures { λ r. ⌜ r ≡ followed (now (text .entry)) b cell ⌝ }
+// A text is judged 10, then 11, then line by line.
+pub(crate) fn read(text: &[u8], lists: &mut [u32]) -> Body
+    requires { ⌜ length (now lists) ≡ 128 * fields ⌝ }
+    ensures { λ r. ⌜ Told (read (now (text .entry))) r (now (lists .exit)) ⌝ }
 {
-    let Cell::Number(value, next) = cell else {
-        return Cell::Malformed;
-    };
-    if byte_at(text, next) == b {
-        return Cell::Number(value, next + 1);
+    if 16_384 < text.len() {
+        return Body::Refused(Reason::TextTooLong);
     }
-    Cell::Malformed
-}
-
-// A field: a number, bare or in double quotes.
-fn field_at(text: &[u8], at: usize) -> Cell
-    ensures { λ r. ⌜ r ≡ fieldAt (now (text .entry)) at ⌝ }
-{
-    if byte_at(text, at) == b'"' {
-        followed(text, b'"', number_at(text, at + 1))
-    } else {
-        number_at(text, at)
-    }
-}
-
-// A field with the comma behind it.
-fn parted_at(text: &[u8], at: usize) -> Cell
-    ensures { λ r. ⌜ r ≡ partedAt (now (text .entry)) at ⌝ }
-{
-    followed(text, b',', field_at(text, at))
-}
-
-// Where the next line begins, if a line ends at `at`.
-fn line_end(text: &[u8], at: usize) -> End
-    ensures { λ r. ⌜ r ≡ lineEnd (now (text .entry)) at ⌝ }
-{
-    if text.len() <= at {
-        return End::Next(at);
-    }
-    if byte_at(text, at) != b'\r' {
-        return End::Missing;
-    }
-    if byte_at(text, at + 1) != b'\n' {
-        return End::Missing;
-    }
-    End::Next(at + 2)
-}
-
-// A record: six fields parted by commas, and the line's end.
-pub(crate) fn record_at(text: &[u8], at: usize) -> Line
-    ensures { λ r. ⌜ r ≡ recordAt (now (text .entry)) at ⌝ }
-{
-    let Cell::Number(job, a) = parted_at(text, at) else {
-        return Line::Malformed;
+    let End::Next(at) = text::reading::after_line(
+        text,
+        b"job,subtask,release,execution,deadline,critical",
+    ) else {
+        return Body::Refused(Reason::Header);
     };
-    let Cell::Number(subtask, b) = parted_at(text, a) else {
-        return Line::Malformed;
-    };
-    let Cell::Number(release, c) = parted_at(text, b) else {
-        return Line::Malformed;
-    };
-    let Cell::Number(execution, d) = parted_at(text, c) else {
-        return Line::Malformed;
-    };
-    let Cell::Number(deadline, e) = parted_at(text, d) else {
-        return Line::Malformed;
-    };
-    let Cell::Number(critical, f) = field_at(text, e) else {
-        return Line::Malformed;
-    };
-    let End::Next(next) = line_end(text, f) else {
-        return Line::Malformed;
-    };
-    Line::Record(
-        Row {
-            job,
-            subtask,
-            release,
-            execution,
-            deadline,
-            critical,
-        },
-        next,
-    )
-}
-
-// Whether a text starts with a word.
-fn starts(text: &[u8], word: &[u8]) -> bool
-    ensures { λ r. ⌜ r ≡ starts (now (word .entry)) (now (text .entry)) ⌝ }
-{
-    let mut i = 0;
-    while i < word.len() {
-        if text.len() <= i {
-            return false;
-        }
-        if text[i] != word[i] {
-            return false;
-        }
-        i += 1;
-    }
-    true
-}
-
-// Where the first record begins, if the first line is the header.
-pub(crate) fn after_header(text: &[u8]) -> End
-    ensures { λ r. ⌜ r ≡ afterHeader (now (text .entry)) ⌝ }
-{
-    if starts(text, b"job,subtask,release,execution,deadline,critical") {
-        line_end(text, 47)
-    } else {
-        End::Missing
-    }
+    records_from(text, at, lists)
 }

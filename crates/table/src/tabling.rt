@@ -1,56 +1,24 @@
-// From the columns of the records to the output: the assignment's deadlines, the simulator's finishes, the lines.
-ghost use Prim.Native.Nat.{_≤_};
+// From the lists of the records to the output: the assignment's deadlines, the simulator's finishes, the lines.
+ghost use Prim.Native.Nat.{_<_};
 ghost use mathlib.Core.Path.{_≡_};
-ghost use lib.ListN.{length, take, replicate};
-ghost use Rattle.subjobs.specs.Sets.{subjobs};
-ghost use Rattle.table.specs.Answers.{accepted, verdictOf, tabled};
-ghost use Rattle.table.specs.Columns.{Sized};
-ghost use Rattle.table.specs.Stores.{Wrote, Sound};
-use crate::columns::Columns;
+ghost use Rattle.subjobs.specs.Layout.{listAt};
+ghost use Rattle.olda.specs.Answers as olda;
+ghost use Rattle.edf.specs.Answers as edf;
+ghost use Rattle.text.specs.Writing.{Wrote};
+ghost use Rattle.table.specs.Format.{fields};
+ghost use Rattle.table.specs.Answers.{verdictOf, tabled};
+ghost use Rattle.table.specs.Stores.{setIn, Listed, Roomy};
 use crate::writing;
 use edf::Totals;
 use olda::Answer;
 use subjobs::Judgement;
 
-// The output for a set with these local deadlines: its lines, with the finishes of a run in which every ask equals
-// execution.
-fn put_accepted(
-    jobs: &[u32],
-    subtasks: &[u32],
-    releases: &[u32],
-    executions: &[u32],
-    deadlines: &[u32],
-    criticals: &[u32],
-    local: &[u32],
-    finishes: &mut [u32],
-    out: &mut [u8],
-) -> usize
-    requires { ⌜ Sound (subjobs (now jobs) (now subtasks) (now releases) (now executions) (now deadlines) (now criticals)) (now local) × (length (now finishes) ≡ length (now jobs)) × (7_203 ≤ length (now out)) ⌝ }
-    ensures { λ r. ⌜ Wrote (now (out .entry)) 0 (accepted (subjobs (now (jobs .entry)) (now (subtasks .entry)) (now (releases .entry)) (now (executions .entry)) (now (deadlines .entry)) (now (criticals .entry))) (now (local .entry))) (now (out .exit)) r ⌝ }
+// The first n places of the k-th of the lists, which stand 128 places apart.
+fn list(lists: &[u32], k: usize, n: usize) -> &[u32]
+    requires { ⌜ Listed (now lists) n × (k < fields) ⌝ }
+    ensures { λ r. ⌜ now r ≡ listAt (now (lists .entry)) 128 k n ⌝ }
 {
-    edf::simulate(
-        jobs,
-        subtasks,
-        releases,
-        executions,
-        deadlines,
-        criticals,
-        local,
-        executions,
-        finishes,
-        Totals { busy: 0, idle: 0 },
-    );
-    let at = writing::put_header(out);
-    writing::put_lines(
-        out,
-        at,
-        jobs,
-        subtasks,
-        deadlines,
-        criticals,
-        local,
-        finishes,
-    )
+    &lists[128 * k..128 * k + n]
 }
 
 // Whether the assignment accepts, and why not.
@@ -64,107 +32,68 @@ fn verdict_of(answer: Answer) -> Judgement
     }
 }
 
+// The assignment on a set.
+fn place(lists: &[u32], n: usize, local: &mut [u32]) -> Answer
+    requires { ⌜ Listed (now lists) n ⌝ }
+    ensures { λ r. ⌜ olda.Assigns (setIn (now (lists .entry)) n) (now (local .entry)) r (now (local .exit)) ⌝ }
+{
+    olda::assign(
+        list(lists, 0, n),
+        list(lists, 1, n),
+        list(lists, 2, n),
+        list(lists, 3, n),
+        list(lists, 4, n),
+        list(lists, 5, n),
+        local,
+    )
+}
+
+// A run of a set in which every ask equals execution.
+fn run(lists: &[u32], n: usize, local: &[u32], finishes: &mut [u32])
+    requires { ⌜ Listed (now lists) n ⌝ }
+    ensures { λ _. ⌜ now (finishes .exit) ≡ edf.finishes (setIn (now (lists .entry)) n) (now (local .entry))
+        (listAt (now (lists .entry)) 128 3 n) (now (finishes .entry)) (record { busy = 0; idle = 0 }) ⌝ }
+{
+    edf::simulate(
+        list(lists, 0, n),
+        list(lists, 1, n),
+        list(lists, 2, n),
+        list(lists, 3, n),
+        list(lists, 4, n),
+        list(lists, 5, n),
+        local,
+        list(lists, 3, n),
+        finishes,
+        Totals { busy: 0, idle: 0 },
+    );
+}
+
 // The output for a set. `local` and `finishes` are room for the deadlines and the finishes.
 fn put_set(
-    jobs: &[u32],
-    subtasks: &[u32],
-    releases: &[u32],
-    executions: &[u32],
-    deadlines: &[u32],
-    criticals: &[u32],
+    lists: &[u32],
+    n: usize,
     local: &mut [u32],
     finishes: &mut [u32],
     out: &mut [u8],
 ) -> usize
-    requires { ⌜ (length (now jobs) ≤ 128) × (now local ≡ replicate (length (now jobs)) 0) × (length (now finishes) ≡ length (now jobs)) × (7_203 ≤ length (now out)) ⌝ }
-    ensures { λ r. ⌜ Wrote (now (out .entry)) 0 (tabled (subjobs (now (jobs .entry)) (now (subtasks .entry)) (now (releases .entry)) (now (executions .entry)) (now (deadlines .entry)) (now (criticals .entry)))) (now (out .exit)) r ⌝ }
+    requires { ⌜ Roomy (now lists) n (now local) (now finishes) ⌝ }
+    ensures { λ r. ⌜ Wrote (now (out .entry)) 0 (tabled (setIn (now (lists .entry)) n)) (now (out .exit)) r ⌝ }
 {
-    let answer = olda::assign(
-        jobs,
-        subtasks,
-        releases,
-        executions,
-        deadlines,
-        criticals,
-        local,
-    );
-    let verdict = verdict_of(answer);
+    let verdict = verdict_of(place(lists, n, local));
     if let Judgement::Refused(reason) = verdict {
         return writing::put_refusal(out, reason);
     }
-    put_accepted(
-        jobs,
-        subtasks,
-        releases,
-        executions,
-        deadlines,
-        criticals,
-        local,
-        finishes,
-        out,
-    )
+    run(lists, n, local, finishes);
+    let at = text::writing::put_text(out, 0, b"job,subtask,deadline,finish,slack\r\n");
+    writing::put_lines(lists, n, local, finishes, out, at)
 }
 
-// The first n numbers of a column.
-fn first(column: &[u32], n: usize) -> &[u32]
-    requires { ⌜ n ≤ length (now column) ⌝ }
-    ensures { λ r. ⌜ (now r ≡ take n (now (column .entry))) × (length (now r) ≡ n) ⌝ }
+// The output for the first n records.
+pub(crate) fn put_records(lists: &[u32], n: usize, out: &mut [u8]) -> usize
+    requires { ⌜ Listed (now lists) n ⌝ }
+    ensures { λ r. ⌜ Wrote (now (out .entry)) 0 (tabled (setIn (now (lists .entry)) n)) (now (out .exit)) r ⌝ }
 {
-    &column[..n]
-}
-
-// The output for the first `count` places of the columns.
-fn put_first(
-    jobs: &[u32],
-    subtasks: &[u32],
-    releases: &[u32],
-    executions: &[u32],
-    deadlines: &[u32],
-    criticals: &[u32],
-    count: usize,
-    local: &mut [u32],
-    finishes: &mut [u32],
-    out: &mut [u8],
-) -> usize
-    requires { ⌜ (count ≤ 128) × Sized (record { jobs = now jobs; subtasks = now subtasks; releases = now releases; executions = now executions; deadlines = now deadlines; criticals = now criticals }) × (now local ≡ replicate 128 0) × (length (now finishes) ≡ 128) × (7_203 ≤ length (now out)) ⌝ }
-    ensures { λ r. ⌜ Wrote (now (out .entry)) 0 (tabled (subjobs (take count (now (jobs .entry))) (take count (now (subtasks .entry))) (take count (now (releases .entry))) (take count (now (executions .entry))) (take count (now (deadlines .entry))) (take count (now (criticals .entry))))) (now (out .exit)) r ⌝ }
-{
-    put_set(
-        first(jobs, count),
-        first(subtasks, count),
-        first(releases, count),
-        first(executions, count),
-        first(deadlines, count),
-        first(criticals, count),
-        &mut local[..count],
-        &mut finishes[..count],
-        out,
-    )
-}
-
-// The output for the first `count` records.
-pub(crate) fn put_records(columns: Columns, count: usize, out: &mut [u8]) -> usize
-    requires { ⌜ (count ≤ 128) × Sized columns × (7_203 ≤ length (now out)) ⌝ }
-    ensures { λ r. ⌜ Wrote (now (out .entry)) 0 (tabled (subjobs (take count (columns .jobs)) (take count (columns .subtasks)) (take count (columns .releases)) (take count (columns .executions)) (take count (columns .deadlines)) (take count (columns .criticals)))) (now (out .exit)) r ⌝ }
-{
-    let jobs = columns.jobs;
-    let subtasks = columns.subtasks;
-    let releases = columns.releases;
-    let executions = columns.executions;
-    let deadlines = columns.deadlines;
-    let criticals = columns.criticals;
     let mut local = [0u32; 128];
     let mut finishes = [0u32; 128];
-    put_first(
-        &jobs,
-        &subtasks,
-        &releases,
-        &executions,
-        &deadlines,
-        &criticals,
-        count,
-        &mut local,
-        &mut finishes,
-        out,
-    )
+    put_set(lists, n, &mut local[..n], &mut finishes[..n], out)
 }

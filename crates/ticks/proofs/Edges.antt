@@ -6,8 +6,7 @@ use mathlib.Core.Path.{_≡_, refl}
 use Rattle.lists.specs.Places.{from, filter, weight, greatest}
 use Rattle.lists.specs.Order.{ahead, choose}
 use Rattle.subjobs.specs.Sets.{Subjobs, subjobs}
-use Rattle.ticks.specs.Core.{start, after}
-use Rattle.ticks.specs.Runs.{horizon, finish, end, busyTicks, idleTicks, Run, runOf, run}
+use Rattle.ticks.specs.Runs.{runOf, run}
 
 -- four jobs with these releases and executions
 abbrev four : (rs cs : List ℕ) → Subjobs
@@ -23,5 +22,5 @@ pub edges :
     × (run (subjobs (5 ∷ 2 ∷ 2 ∷ []) (1 ∷ 3 ∷ 2 ∷ []) (0 ∷ 0 ∷ 0 ∷ []) (1 ∷ 1 ∷ 1 ∷ []) (9 ∷ 9 ∷ 9 ∷ []) (0 ∷ 0 ∷ 0 ∷ []))
     (4 ∷ 4 ∷ 4 ∷ []) (1 ∷ 1 ∷ 1 ∷ [])
     ≡ record { finishes = 3 ∷ 2 ∷ 1 ∷ []; end = 3; busy = 3; idle = 0 })
-unfolding from filter weight greatest ahead choose start after horizon finish end busyTicks idleTicks runOf
+unfolding from filter weight greatest ahead choose runOf
 edges = (refl, refl, refl)

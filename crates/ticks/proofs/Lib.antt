@@ -2,11 +2,13 @@ pub mod Service
 pub mod Jumps
 pub mod Counted
 pub mod Ends
-pub mod Turns
-pub mod Ticks
 pub mod Groups
 pub mod Finishes
+pub mod Ticks
+pub mod Turns
+pub mod Sooner
 pub mod Keeps
 pub mod Converse
 pub mod Alone
+pub mod Renaming
 pub mod Edges

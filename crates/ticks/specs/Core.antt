@@ -1,12 +1,17 @@
--- The core that serves one tick at a time. Tick t lies between moments t and t + 1. The core is
--- generic in releases r, in what is owed, in the order lt by which one sub-job is served before
--- another, and in the list xs of the places on it.
+-- The core that serves one tick at a time. Tick t lies between moments t and t + 1. All that the core reads is one record,
+-- and nothing in it need come from a set: other releases, another order of service or fewer places are another record.
 --
---   start       == the core before the first tick
---   active t v  == who can be served in tick t, if v has been served so far
---   pick t v    == who is served
---   after t     == the core at moment t, t ticks after the start
-use Prim.Native.Nat.{ℕ, zero, suc}
+--   Load           == what a core reads: releases, what is owed, the order of service, and the places on it
+--   start          == the core before the first tick
+--   active L t v i == i can be served in tick t, if v has been served so far
+--   pick L t v     == who is served
+--   tick L t c     == the core c of moment t after the next tick
+--   ticks L t c n  == the core c of moment t after n ticks
+--   after L t      == the core at moment t, t ticks after the start
+--   served L t i   == the ticks served to i by moment t
+--   ended L t i    == the end of the last of them, 0 if there is none
+--   turn L t       == who is served in tick t
+use Prim.Native.Nat.{ℕ, zero, suc, _+_}
 use mathlib.Core.Bool.{Bool, _&&_}
 use mathlib.Core.List.{List}
 use mathlib.Core.Option.{Option, none, some}
@@ -14,6 +19,12 @@ use lib.Dec.{ltb, leb}
 use lib.ListN.{getD, set, replicate}
 use Rattle.lists.specs.Places.{filter}
 use Rattle.lists.specs.Order.{choose}
+
+pub record Load : Type 0 where
+  pub release : ℕ → ℕ
+  pub owed : ℕ → ℕ
+  pub before : ℕ → ℕ → Bool
+  pub on : List ℕ
 
 -- Of each place the ticks served to it and the end of the last of them; the ticks so far in which something was served,
 -- and the others.
@@ -44,19 +55,32 @@ abbrev pub step : ℕ → Core → Option ℕ → Core
 step t c none = rest c
 step t c (some p) = serve t p c
 
-module _ (r owed : ℕ → ℕ) (lt : ℕ → ℕ → Bool) (xs : List ℕ) where
+module _ (L : Load) where
   -- released at or before that tick and still owed something
   abbrev pub active : ℕ → List ℕ → ℕ → Bool
-  active t v i = leb (r i) t && ltb (getD v i 0) (owed i)
+  active t v i = leb (L .release i) t && ltb (getD v i 0) (L .owed i)
 
   -- Among those the core serves the one that comes first.
   abbrev pub pick : ℕ → List ℕ → Option ℕ
-  pick t v = choose lt (filter (active t v) xs)
+  pick t v = choose (L .before) (filter (active t v) (L .on))
 
   abbrev pub tick : ℕ → Core → Core
   tick t c = step t c (pick t (c .served))
 
+  unfoldable pub ticks : ℕ → Core → ℕ → Core
+  ticks t c zero = c
+  ticks t c (suc n) = tick (t + n) (ticks t c n)
+
   -- in each tick from 0 on
   unfoldable pub after : ℕ → Core
-  after zero = start
-  after (suc t) = tick t (after t)
+  unfolding ticks
+  after t = ticks 0 start t
+
+  abbrev pub served : ℕ → ℕ → ℕ
+  served t i = getD (after t .served) i 0
+
+  abbrev pub ended : ℕ → ℕ → ℕ
+  ended t i = getD (after t .finish) i 0
+
+  abbrev pub turn : ℕ → Option ℕ
+  turn t = pick t (after t .served)

@@ -274,9 +274,7 @@ fn table(text: &[u8], at: &mut usize) {
 }
 
 fn output(text: &[u8]) {
-    let mut out = [0u8; 8192];
-    match table::table(text, &mut out) {
-        table::Written::Bytes(n) => printing::start(&out, n),
-        table::Written::NoRoom => saying::say(b"no room\n"),
-    }
+    let mut out = [0u8; 7203];
+    let n = table::table(text, &mut out);
+    printing::bytes(&out[..n]);
 }

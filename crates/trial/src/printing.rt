@@ -22,27 +22,25 @@ pub(crate) fn list(numbers: &[u32]) {
     saying::list(numbers);
 }
 
-// The count of the first bytes of a text, and these bytes, each with a line end behind it.
-pub(crate) fn start(text: &[u8], n: usize) {
-    if n <= text.len() {
-        saying::number(n as u64);
-        say(b"\n");
-        say(&text[0..n]);
-        say(b"\n");
-    }
+// The count of the bytes of a text, and these bytes, each with a line end behind it.
+pub(crate) fn bytes(text: &[u8]) {
+    saying::number(text.len() as u64);
+    say(b"\n");
+    say(text);
+    say(b"\n");
 }
 
 // A refusal: its number and place, for number 3 the field, for number 5 completion and bound.
 pub(crate) fn refusal(reason: Reason) {
-    let no = subjobs::number_of(reason);
+    let told = subjobs::tell(reason);
     say(b"refused");
-    number(wide(no));
-    number(subjobs::place_of(reason) as u64);
-    if no == 3 {
-        number(wide(subjobs::field_of(reason)));
+    number(wide(told.number));
+    number(told.place as u64);
+    if told.number == 3 {
+        number(wide(told.field));
     }
-    if no == 5 {
-        number(wide(subjobs::completion_of(reason)));
-        signed(subjobs::bound_of(reason));
+    if told.number == 5 {
+        number(wide(told.completion));
+        signed(told.bound);
     }
 }

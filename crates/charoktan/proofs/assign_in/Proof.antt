@@ -1,102 +1,78 @@
--- `assign_in` meets its contract: each answer of the assignment is one of the door's ways out.
+-- `assign_in` meets its contract: the set assigned is the one that the bytes hold, and each answer is one of the door's ways
+-- out.
 use borrow.Author.Needs.{needs}
+use mathlib.Core.List.{List, _++_}
+use Prim.Native.Nat.{ℕ}
 use mathlib.Core.Path.{_≡_, refl, sym, ap, _∙_}
-use lib.ListN.{length}
-use Rattle.olda.specs.Answers.{answer}
+use native.Mathlib.Omega.{arith}
+use lib.ListN.{length, take, drop, length-take}
+use Rattle.olda.specs.Answers.{answer, results}
 use Rattle.olda.proofs.Results.{refused-within}
 use Rattle.charoktan.specs.Records.{records, count, encoded}
-use Rattle.charoktan.proofs.Door.{fit-length, answered, front}
+use Rattle.charoktan.proofs.Coding.{fields-records}
+use Rattle.charoktan.proofs.Door.{fit-length, answered, assigns, front}
 use Rattle.charoktan.proofs.assign_in.Statement.{statement}
 use Rattle.charoktan.proofs.assign_in.Tie as tie
 
-columns-requires : tie.Need-columns-requires
-columns-requires c κs = search needs
+-- Where the call started.
+abbrev Start : tie.After-assign → tie.Start
+Start c = c .before .before .before .before .before .before .before .before .before .before .before .before .before .before .before .before .before
 
-assign-fields-requires : tie.Need-assign-fields-requires
-assign-fields-requires c κs = search needs
-
-enum-known-answer : tie.Need-enum-known-answer
-enum-known-answer c = search needs
-
--- What the assignment said.
-said : (c : tie.After-assign-fields) → let bs = c .before .before .before .before .before .before .before .before .before .before .before .args .records .now in
-    answer (records bs) (count bs) ≡ c .assign-fields .result
-said c = sym (c .assign-fields .ensures (c .before .before .before .before .before .before .before .before .before .before .before .args .records .now) refl (c .before .before .before .before .before .columns .ensures) .0)
-
-code-requires : tie.Need-code-requires
-code-requires c κs =
-    let bs = c .before .before .before .before .before .before .before .before .before .before .before .before .before .before .before .before .args .records .now in
-    refused-within (records bs) (count bs) (c .before .answer .given .0 .0) (said (c .before .before .before .before .before) ∙ c .before .answer .given .1)
-
-enum-told : tie.Need-enum-told
-enum-told c = search needs
-
-enum-told-2 : tie.Need-enum-told-2
-enum-told-2 c = search needs
-
-put-all-requires : tie.Need-put-all-requires
-put-all-requires c κs =
-    (search needs, fit-length (c .before .before .before .before .before .before .before .before .before .before .before .before .before .before .before .before .before .args .records .now) (length (c .before .before .before .before .before .before .before .before .before .before .before .before .before .before .before .before .before .args .deadlines .now)) (c .before .before .before .before .before .before .before .before .before .before .before .before .before .before .before .before .before .pre .0))
-
-same-length : tie.Need-same-length
-same-length c = search needs
-
-same-length-2 : tie.Need-same-length-2
-same-length-2 c = search needs
-
-returns : tie.Need-returns
-returns c =
-    let a = c .before .before .before .before .before .before .before .before .before .before .before .before .before .before .before .before .before in
-    let d = answered (a .args .records .now) (a .args .deadlines .now) (a .pre .0) _ (said (c .before .before .before .before .before .before) ∙ c .before .before .answer .given .1) in
-    (c .code .ensures ∙ sym (d .0), sym (d .1))
-
-same-length-3 : tie.Need-same-length-3
-same-length-3 c = search needs
-
-same-length-4 : tie.Need-same-length-4
-same-length-4 c = search needs
-
-returns-2 : tie.Need-returns-2
-returns-2 c =
-    let a = c .before .before .before .before .before .before .before .before .before .before .before .before .before .before .before in
-    let d = answered (a .args .records .now) (a .args .deadlines .now) (a .pre .0) _ (said (c .before .before .before .before) ∙ c .enum-told .given .1) in
-    (sym (d .0), sym (d .1))
-
-same-length-5 : tie.Need-same-length-5
-same-length-5 c = search needs
-
-same-length-6 : tie.Need-same-length-6
-same-length-6 c = search needs
-
-same-length-7 : tie.Need-same-length-7
-same-length-7 c = search needs
-
-returns-3 : tie.Need-returns-3
-returns-3 c =
-    let a = c .before .before .before .before .before .before .before .before .before .before .before .before .before .before .before .before .before .before .before .before in
-    let bs = a .args .records .now in
-    let w = c .before .before .before .before .before .before .before .before .before .assign-fields .ensures bs refl (c .before .before .before .before .before .before .before .before .before .before .before .before .before .before .columns .ensures) .1 in
-    let d = answered bs (a .args .deadlines .now) (a .pre .0) _ (said (c .before .before .before .before .before .before .before .before .before) ∙ c .before .before .before .before .before .enum-told2 .given .1) in
-    (sym (d .0), c .before .before .put-all .ensures ∙ ap encoded (front (records bs) (count bs) (a .args .local .now) _ (a .pre .3) (a .pre .4) w) ∙ sym (d .1))
+-- What the assignment said, and what it left.
+said :
+    (c : tie.After-assign)
+    → let a = Start c .args in
+    let s = records (a .records .now) in
+    let n = count (a .records .now) in
+    (answer s n ≡ c .assign .result) × (c .assign .last .1 .1 .1 .1 .1 .1 .0 ≡ results s (take n (a .local .now)))
+said c =
+    let a = Start c in
+    let n = count (a .args .records .now) in
+    let l : length (take n (a .args .local .now)) ≡ n = simp length-take (omega (arith, a .pre .list)) in
+    let e =
+    fields-records (a .args .records .now) _ _ _ _ _ _ _ (c .before .before .before .before .before .before .before .before .before .before .before .columns .ensures)
+    (c .before .before .before .before .before .before .before .field .ensures) (c .before .before .before .before .before .before .field2 .ensures) (c .before .before .before .before .before .field3 .ensures) (c .before .before .before .before .field4 .ensures) (c .before .before .before .field5 .ensures) (c .before .before .field6 .ensures)
+    in
+    (sym (c .assign .ensures .0 ∙ rw (e, l)), c .assign .ensures .1 ∙ rw e)
 
 pub assign-in-spec : {M : Type 1} → statement M
 assign-in-spec =
     tie.close
     (tie.spec
-    columns-requires
-    assign-fields-requires
-    enum-known-answer
-    code-requires
-    enum-told
-    enum-told-2
-    put-all-requires
-    same-length
-    same-length-2
-    returns
-    same-length-3
-    same-length-4
-    returns-2
-    same-length-5
-    same-length-6
-    same-length-7
-    returns-3)
+    (λ c κs. search needs)
+    (λ c κs. search needs) (λ c κs. search needs) (λ c κs. search needs) (λ c κs. search needs) (λ c κs. search needs) (λ c κs. search needs)
+    (λ c. search needs) (λ c. simp length-take (omega arith)) (λ c κs. search needs) (λ c. search needs)
+    (λ c κs.
+    let d = c .before .before .before .before .before in
+    let bs = Start d .args .records .now in
+    refused-within (records bs) (count bs) (c .before .answer .given .0 .0) (said d .0 ∙ c .before .answer .given .1))
+    (λ c. search needs) (λ c. search needs)
+    (λ c κs.
+    let a = Start (c .before .before .before .before .before .before) in
+    (search needs, fit-length (a .args .records .now) (length (a .args .deadlines .now)) (a .pre .fits)))
+    (λ c. search needs) (λ c. search needs)
+    -- refused
+    (λ c.
+    let d = c .before .before .before .before .before .before in
+    let a = Start d in
+    assigns _ _ (c .code .ensures) refl
+    (answered (a .args .records .now) (a .args .deadlines .now) (a .pre .fits) _ (said d .0 ∙ c .before .before .answer .given .1)))
+    (λ c. search needs) (λ c. search needs)
+    -- nothing to place
+    (λ c.
+    let d = c .before .before .before .before in
+    let a = Start d in
+    assigns _ _ refl refl
+    (answered (a .args .records .now) (a .args .deadlines .now) (a .pre .fits) _ (said d .0 ∙ c .enum-told .given .1)))
+    (λ c. search needs) (λ c. c .before .before .before .before .before .before .before .before .before .before .before .before .before .before .before .before .before .before .before .before .columns .kept .1 .1 .0) (λ c. search needs)
+    -- placed
+    (λ c.
+    let d = c .before .before .before .before .before .before .before .before .before in
+    let a = Start d in
+    let bs = a .args .records .now in
+    let n = count bs in
+    let l = a .args .local .now in
+    assigns _ _ refl
+    (c .before .before .put-all .ensures
+    ∙ ap encoded (front (records bs) n l _ (a .pre .list) (a .pre .zeros) (ap (λ (o : List ℕ). o ++ drop n l) (said d .1))))
+    (answered bs (a .args .deadlines .now) (a .pre .fits) _ (said d .0 ∙ c .before .before .before .before .before .enum-told2 .given .1))))

@@ -1,108 +1,68 @@
--- `check_in` meets its contract: each answer of the checker is one of the door's ways out.
+-- `check_in` meets its contract: what is checked is what the bytes hold, and each answer is one of the door's ways out.
 use borrow.Author.Needs.{needs}
-use Prim.Native.Nat.{_*_, _-_}
-use mathlib.Core.Path.{_≡_, refl, sym, _∙_}
+use mathlib.Core.List.{_++_}
+use mathlib.Core.Path.{_≡_, sym, ap, _∙_}
 use native.Mathlib.Omega.{arith}
-use lib.ListN.{length, take, drop, length-take, length-drop}
+use lib.ListN.{length, take, drop, length-take}
 use Rattle.checker.specs.Answers.{answer}
 use Rattle.checker.proofs.Reported.{refused-within}
 use Rattle.charoktan.specs.Records.{records, count, words}
-use Rattle.charoktan.proofs.Door.{fit-length, answered-check}
-use Rattle.charoktan.proofs.Coding.{length-column, put-behind}
+use Rattle.charoktan.proofs.Coding.{fields-records, length-column}
+use Rattle.charoktan.proofs.Door.{fit-length, answered-check, front-words}
 use Rattle.charoktan.proofs.check_in.Statement.{statement}
 use Rattle.charoktan.proofs.check_in.Tie as tie
 
-columns-requires : tie.Need-columns-requires
-columns-requires c κs = search needs
+-- Where the call started.
+abbrev Start : tie.After-check → tie.Start
+Start c = c .before .before .before .before .before .before .before .before .before .before .before .before .before .before .before .before .before .before .before .before .before
 
-mul-column : tie.Need-mul-column
-mul-column c = search needs
-
-mul-column-2 : tie.Need-mul-column-2
-mul-column-2 c = search needs
-
-mul-column-3 : tie.Need-mul-column-3
-mul-column-3 c = search needs
-
-sub-column : tie.Need-sub-column
-sub-column c = search needs
-
-part-column-start : tie.Need-part-column-start
-part-column-start c = search needs
-
-part-column-end : tie.Need-part-column-end
-part-column-end c = search needs
-
-column-requires : tie.Need-column-requires
-column-requires c κs =
-    let a = c .before .before .before .before .before .before .before .before in
-    (simp (length-take, length-drop) (omega (arith, fit-length (a .args .records .now) (length (a .args .deadlines .now)) (a .pre .0))), omega arith)
-
-check-fields-requires : tie.Need-check-fields-requires
-check-fields-requires c κs = search needs
-
-enum-known-answer : tie.Need-enum-known-answer
-enum-known-answer c = search needs
+-- What was proposed.
+proposed :
+    (c : tie.After-words)
+    → let a = c .before .before .before .before .before .before .before .before .before .before .args in
+    let n = count (a .records .now) in
+    take n (c .words .last .1 .0 ++ drop n (a .proposed .now)) ≡ words (a .deadlines .now) n
+proposed c =
+    let a = c .before .before .before .before .before .before .before .before .before .before in
+    let n = count (a .args .records .now) in
+    front-words (a .args .deadlines .now) (c .words .last .1 .0) _ n _ (simp length-take (omega (arith, a .pre .list))) (c .words .ensures)
 
 -- What the checker said.
-said : (c : tie.After-check-fields) → let a = c .before .before .before .before .before .before .before .before .before .before .before .before .before .args in
-    answer (records (a .records .now)) (words (a .deadlines .now) (count (a .records .now))) ≡ c .check-fields .result
+said :
+    (c : tie.After-check)
+    → let a = Start c .args in answer (records (a .records .now)) (words (a .deadlines .now) (count (a .records .now))) ≡ c .check .result
 said c =
-    let a = c .before .before .before .before .before .before .before .before .before .before .before .before .before in
-    let bs = a .args .records .now in
-    let ds = a .args .deadlines .now in
-    let n = count bs in
-    let f = c .before .before .before .before .before .before .before .before .columns .last .1 .1 .0 in
-    let long : length (take (7 * n - 6 * n) (drop (6 * n) f)) ≡ n = simp (length-take, length-drop) (omega arith) in
-    let col : c .before .before .before .before .column .last .1 .1 .1 .0 ≡ words ds n =
-    c .before .before .before .before .column .ensures ∙ rw long in
-    let p =
-    put-behind bs f (c .before .before .before .before .column .last .1 .1 .1 .0) (drop (7 * n - 6 * n) (drop (6 * n) f)) n (6 * n) refl (omega arith) (rw col (length-column ds 4 0 n))
-    (c .before .before .before .before .before .before .before .before .columns .ensures)
+    let e =
+    fields-records (Start c .args .records .now) _ _ _ _ _ _ _ (c .before .before .before .before .before .before .before .before .before .before .before .before .before .before .before .columns .ensures)
+    (c .before .before .before .before .before .before .before .field .ensures) (c .before .before .before .before .before .before .field2 .ensures) (c .before .before .before .before .before .field3 .ensures) (c .before .before .before .before .field4 .ensures) (c .before .before .before .field5 .ensures) (c .before .before .field6 .ensures)
     in
-    sym (c .check-fields .ensures bs ds refl (p .0) (p .1 ∙ col))
-
-code-requires : tie.Need-code-requires
-code-requires c κs =
-    let a = c .before .before .before .before .before .before .before .before .before .before .before .before .before .before .before .before .args in
-    refused-within (records (a .records .now)) (words (a .deadlines .now) (count (a .records .now))) (c .before .answer .given .0 .0) (said (c .before .before .before) ∙ c .before .answer .given .1)
-
-enum-told : tie.Need-enum-told
-enum-told c = search needs
-
-same-length : tie.Need-same-length
-same-length c = search needs
-
-returns : tie.Need-returns
-returns c =
-    let a = c .before .before .before .before .before .before .before .before .before .before .before .before .before .before .before .before .before in
-    c .code .ensures ∙ sym (answered-check (a .args .records .now) (a .args .deadlines .now) (a .pre .0) _ (said (c .before .before .before .before) ∙ c .before .before .answer .given .1))
-
-same-length-2 : tie.Need-same-length-2
-same-length-2 c = search needs
-
-returns-2 : tie.Need-returns-2
-returns-2 c =
-    let a = c .before .before .before .before .before .before .before .before .before .before .before .before .before .before .before in
-    sym (answered-check (a .args .records .now) (a .args .deadlines .now) (a .pre .0) _ (said (c .before .before) ∙ c .enum-told .given .1))
+    sym (c .check .ensures ∙ rw (e, proposed (c .before .before .before .before .before .before .before .before .before .before .before)))
 
 pub check-in-spec : {M : Type 1} → statement M
 check-in-spec =
     tie.close
     (tie.spec
-    columns-requires
-    mul-column
-    mul-column-2
-    mul-column-3
-    sub-column
-    part-column-start
-    part-column-end
-    column-requires
-    check-fields-requires
-    enum-known-answer
-    code-requires
-    enum-told
-    same-length
-    returns
-    same-length-2
-    returns-2)
+    (λ c κs. search needs) (λ c. search needs) (λ c. simp length-take (omega arith))
+    (λ c κs.
+    let a = c .before .before .before .before .before .before .before .before .before in
+    simp length-take (omega (arith, fit-length (a .args .records .now) (length (a .args .deadlines .now)) (a .pre .fits))))
+    (λ c κs. search needs) (λ c κs. search needs) (λ c κs. search needs) (λ c κs. search needs) (λ c κs. search needs) (λ c κs. search needs)
+    (λ c. search needs) (λ c. sym (ap length (proposed (c .before .before .before .before .before .before .before .before .before .before)) ∙ length-column _ 4 0 _)) (λ c κs. search needs) (λ c. search needs)
+    (λ c κs.
+    let d = c .before .before .before in
+    let a = Start d .args in
+    refused-within (records (a .records .now)) (words (a .deadlines .now) (count (a .records .now))) (c .before .answer .given .0 .0) (said d ∙ c .before .answer .given .1))
+    (λ c. search needs)
+    (λ c. c .before .before .before .before .before .before .before .before .before .before .before .before .before .before .before .before .before .before .before .columns .kept .1 .1 .0) (λ c. search needs)
+    -- refused
+    (λ c.
+    let d = c .before .before .before .before in
+    let a = Start d in
+    c .code .ensures
+    ∙ sym (answered-check (a .args .records .now) (a .args .deadlines .now) (a .pre .fits) _ (said d ∙ c .before .before .answer .given .1)))
+    (λ c. search needs) (λ c. search needs)
+    -- accepted
+    (λ c.
+    let d = c .before .before in
+    let a = Start d in
+    sym (answered-check (a .args .records .now) (a .args .deadlines .now) (a .pre .fits) _ (said d ∙ c .enum-told .given .1))))

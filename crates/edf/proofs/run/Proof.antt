@@ -44,8 +44,7 @@ use denote.Exit.{yes}
 use Rattle.subjobs.specs.Sets.{subjobs}
 use Rattle.edf.specs.declared.Simulated.{Simulated}
 use Rattle.edf.specs.declared.Totals.{Totals}
-use Rattle.edf.specs.Answers as answers
-use Rattle.edf.specs.Answers.{simulated}
+use Rattle.edf.specs.Answers.{Simulates}
 use Rattle.edf.proofs.Answer as N
 use Rattle.edf.proofs.Answer.Laws as N′
 use Rattle.edf.proofs.Simulated as S
@@ -88,9 +87,7 @@ module _ {M : Type 1} (𝓤 : URA M) (H : Heap 𝓤) (A : Atoms 𝓤) (W : Given
 
   -- what the callee says of its result and of the list's last elements
   abbrev Said : Simulated → List ℕ → Type 0
-  Said r zs =
-      (r ≡ simulated (subjobs (x₀ .now) (x₁ .now) (x₂ .now) (x₃ .now) (x₄ .now) (x₅ .now)) (x₆ .now) (x₇ .now) (length (y .now)) h)
-      × (zs ≡ answers.finishes (subjobs (x₀ .now) (x₁ .now) (x₂ .now) (x₃ .now) (x₄ .now) (x₅ .now)) (x₆ .now) (x₇ .now) (y .now) h)
+  Said = Simulates (subjobs (x₀ .now) (x₁ .now) (x₂ .now) (x₃ .now) (x₄ .now) (x₅ .now)) (x₆ .now) (x₇ .now) (y .now) h
 
   abbrev Post : Val → SProp 𝓤
   Post = walkOf 𝓤 H A f.ended stayed (f.clauses 𝓤 H A at-mem run) .post (((κ₀, (κ₁, (κ₂, (κ₃, (κ₄, (κ₅, (κ₆, (κ₇, (κ₈, (κ₉, tt)))))))))), (q₀, (q₁, (q₂, (q₃, (q₄, (q₅, (q₆, (q₇, (q₈, (q₉, tt)))))))))), tt, a, vals), tt)
@@ -118,7 +115,7 @@ module _ {M : Type 1} (𝓤 : URA M) (H : Heap 𝓤) (A : Atoms 𝓤) (W : Given
   exits r zs e l is =
       qed W (‵ (fobs γ (T.the-row .coded .code (r .totals))) ∷ ‵ (fbor κ₉ (Body (mem T.the-row) b o γ)) ∷ ‵ (flft κ₉ q₉) ∷ Tokens ∷ ‵ (finally u32 (y .name) zs) ∷ []) ∵
       suffices ! _ (ends-at 𝓤 H A f.ended stayed (f.clauses 𝓤 H A at-mem run) W (((κ₀, (κ₁, (κ₂, (κ₃, (κ₄, (κ₅, (κ₆, (κ₇, (κ₈, (κ₉, tt)))))))))), (q₀, (q₁, (q₂, (q₃, (q₄, (q₅, (q₆, (q₇, (q₈, (q₉, tt)))))))))), tt, a, vals), tt) (told r) (r .answer) (tt, (tt, (tt, (tt, (tt, (tt, (tt, (tt, (zs, (r .totals, tt)))))))))) (tt, (tt, (tt, (tt, (tt, (tt, (tt, (tt, (l, (tt, tt))))))))))) $
-      says ! (ap (λ (t : Simulated). t .answer) (e .0), ap (λ (t : Simulated). t .totals) (e .0), e .1) $
+      says ! (record { gives = ap (λ (t : Simulated). t .answer) (e .gives); adds = ap (λ (t : Simulated). t .totals) (e .gives); writes = e .writes }) $
       move ! (3 ∷ []) $ split ! $ move ! (1 ∷ []) $ split ! $ move ! (1 ∷ []) $ split ! $ move ! (1 ∷ []) $ split ! $ move ! (1 ∷ []) $ split ! $ move ! (1 ∷ []) $ split ! $ move ! (1 ∷ []) $ split ! $ move ! (1 ∷ []) $ split ! $ move ! (1 ∷ []) $ split ! $
       move ! (12 ∷ 1 ∷ []) $ join ! $
       move ! (1 ∷ 0 ∷ []) $ join ! $ move ! (1 ∷ 0 ∷ []) $ join ! $ move ! (1 ∷ 0 ∷ []) $ join ! $ move ! (1 ∷ 0 ∷ []) $ join ! $ move ! (1 ∷ 0 ∷ []) $ join ! $ move ! (1 ∷ 0 ∷ []) $ join ! $ move ! (1 ∷ 0 ∷ []) $ join ! $ move ! (1 ∷ 0 ∷ []) $ join ! $ move ! (1 ∷ 0 ∷ []) $ join ! $

@@ -1,76 +1,71 @@
--- `assign` meets its contract: a set that is judged to pass fits, and then the answer is that of `assign_fit`.
-use mathlib.Core.Bool.{Bool}
-use mathlib.Core.Path.{_≡_, refl, sym, _∙_}
-use borrow.Author.Tests.{eqb-true}
-use lib.Dec.{eqb}
-use lib.ListN.{length}
-use Rattle.subjobs.specs.declared.Judgement.the-variants.{Passed}
-use Rattle.subjobs.specs.Sets.{Subjobs, subjobs, size}
-use Rattle.subjobs.proofs.Fit.{Fit, fit}
-use Rattle.olda.specs.Answers.{answer, results}
+-- `assign` meets its contract: a set that is judged to pass fits, and then the answer is the ruling of its steps, with the
+-- report where it passes.
 use borrow.Author.Needs.{needs}
+use mathlib.Core.List.{List}
+use Prim.Native.Nat.{ℕ}
+use Rattle.lists.proofs.Cases.{split}
+use Rattle.subjobs.specs.Sets.{Subjobs, subjobs}
+use Rattle.olda.specs.Parts.{Places}
+use Rattle.olda.proofs.Reports.{same-places, judged-refused, judged-fits, placed-length, placed-reporting, placed-refused, placed-passed}
 use Rattle.olda.proofs.assign.Statement.{statement}
 use Rattle.olda.proofs.assign.Tie as tie
 
+-- The set and the result list that were judged.
+abbrev start : tie.After-judge → tie.Start
+start c = c .before .before .before .before .before .before .before .before
+
 abbrev Set : tie.After-judge → Subjobs
 Set c =
-    let a = c .before .before .before .before .before .before .before .before .args in
+    let a = start c .args in
     subjobs (a .jobs .now) (a .subtasks .now) (a .releases .now) (a .executions .now) (a .deadlines .now) (a .criticals .now)
 
-abbrev Others : tie.After-judge → Bool
-Others c = eqb (length (c .before .before .before .before .before .before .before .before .args .out .now)) (size (Set c))
+abbrev Out : tie.After-judge → List ℕ
+Out c = start c .args .out .now
 
-fits : (c : tie.After-judge) → c .judge .result ≡ Passed → Fit (Set c) (Others c)
-fits c e = fit (Set c) (Others c) (sym (c .judge .ensures) ∙ e)
+abbrev judged : tie.Joined1 → tie.After-judge
+judged c = c .before .before .before
 
-judge-requires : tie.Need-judge-requires
-judge-requires c κs = search needs
-
-enum-known-judgement : tie.Need-enum-known-judgement
-enum-known-judgement c = search needs
-
-enum-told : tie.Need-enum-told
-enum-told c = search needs
-
-assign-fit-requires : tie.Need-assign-fit-requires
-assign-fit-requires c κs =
-    let j = c .before .before .before in
-    let f = fits j (c .before .enum-told .given .1) in
-    let l = f .lengths in (
-      (
-        rw (l .releases) (f .few),
-        l .executions ∙ sym (l .releases),
-        l .deadlines ∙ sym (l .releases),
-        l .criticals ∙ sym (l .releases),
-        λ i h. let q = f .ranges i (rw (← l .releases) h) in (q .release, q .some, q .execution, q .deadline, q .critical),
-      ),
-      eqb-true _ _ (l .further) ∙ sym (l .releases),
-    )
-
-returns : tie.Need-returns
-unfolding answer results
-returns c = rw (← c .before .before .before .judge .ensures, c .before .judgement .given .1) (refl, refl)
-
-same-length : tie.Need-same-length
-same-length c = search needs
-
-returns-2 : tie.Need-returns-2
-unfolding answer results
-returns-2 c =
-    let a = c .before .before .before .before .before .before .before .before .before .before .before .before .before .before .args in
-    let j = c .before .before .before .before .before .before in
-    let f = fits j (c .before .before .before .before .enum-told .given .1) in
-    rw (← j .judge .ensures, c .before .before .before .before .enum-told .given .1)
-    (c .before .before .assign-fit .ensures (a .jobs .now) (a .subtasks .now) (sym (f .lengths .releases)))
+-- Few or many, it is placed.
+settled : (c : tie.Joined1) → Places (Set (judged c)) (Out (judged c)) (c .if1 .placed) (c .if1 .out)
+settled c =
+    split (c .if1 .came) (λ w. same-places (w .5) (w .6) (w .2 .ensures)) (λ w. same-places (w .5) (w .6) (w .2 .ensures))
 
 pub assign-spec : {M : Type 1} → statement M
 assign-spec =
     tie.close
     (tie.spec
-    judge-requires
-    enum-known-judgement
-    enum-told
-    assign-fit-requires
-    returns
-    same-length
-    returns-2)
+    (λ c. search needs)
+    (λ c. search needs)
+    (λ c. let j = c .before .before .before in judged-refused (Set j) (Out j) (j .judge .ensures) (c .before .judgement .given .1))
+    (λ c. search needs)
+    (λ c κs.
+    let t = c .before .before in
+    let j = t .before .before in
+    (judged-fits (Set j) (Out j) (j .judge .ensures) (t .enum-told .given .1), search needs))
+    (λ c κs.
+    let t = c .before .before in
+    let j = t .before .before in
+    judged-fits (Set j) (Out j) (j .judge .ensures) (t .enum-told .given .1))
+    (λ c. search needs)
+    (λ c. search needs)
+    (λ c κs.
+    let p = c .before .before .before in
+    let j = judged p in
+    placed-reporting (Set j) (Out j) (j .judge .ensures) (p .before .enum-told .given .1) (settled p))
+    (λ c.
+    let p = c .before .before .before in
+    let j = judged p in
+    placed-length (Set j) (Out j) (j .judge .ensures) (p .before .enum-told .given .1) (settled p))
+    (λ c.
+    let p = c .before .before .before in
+    let j = judged p in
+    placed-refused (Set j) (Out j) (j .judge .ensures) (p .before .enum-told .given .1) (settled p) (c .before .placed .given .1))
+    (λ c.
+    let p = c .before .before .before .before in
+    let j = judged p in
+    placed-length (Set j) (Out j) (j .judge .ensures) (p .before .enum-told .given .1) (settled p))
+    (λ c.
+    let t = c .before .before in
+    let p = t .before .before in
+    let j = judged p in
+    placed-passed (Set j) (Out j) (j .judge .ensures) (p .before .enum-told .given .1) (settled p) (t .enum-told2 .given .1) (c .report .ensures)))

@@ -9,26 +9,32 @@ use lib.Dec.{eqb}
 use lib.ListN.{length, take, length-append}
 use lib.Seq.{length-take-le, take-at}
 use Rattle.subjobs.specs.Sets.{Subjobs, subjobs, size}
-use Rattle.subjobs.proofs.Fit.{Fit, fit}
+use Rattle.subjobs.specs.Faults.{Fit}
+use Rattle.subjobs.proofs.Fit.{fit}
 use Rattle.ticks.specs.Runs.{run}
-use Rattle.checker.proofs.Runs.{ran, ran-length}
+use Rattle.ticks.proofs.Ticks.{run-length}
+use Rattle.checker.proofs.Runs.{ran}
 use Rattle.checker.proofs.conditions.seven.Statement.{statement}
 use Rattle.checker.proofs.conditions.seven.Tie as tie
 
+-- What the function was given: the set, the proposed deadlines and the list that is lent.
+abbrev Given : tie.After-slice-known → tie.Start
+Given c = c .before .before .before .before .before .before .before .before
+
 abbrev Set : tie.After-slice-known → Subjobs
 Set c =
-    let a = c .before .before .before .before .before .before .before .before .args in
+    let a = Given c .args in
     subjobs (a .jobs .now) (a .subtasks .now) (a .releases .now) (a .executions .now) (a .deadlines .now) (a .criticals .now)
 
 abbrev Proposed : tie.After-slice-known → List ℕ
-Proposed c = c .before .before .before .before .before .before .before .before .args .proposed .now
+Proposed c = Given c .args .proposed .now
 
 known : (c : tie.After-slice-known) → Fit (Set c) (eqb (length (Proposed c)) (size (Set c)))
-known c = fit (Set c) (eqb (length (Proposed c)) (size (Set c))) (c .before .before .before .before .before .before .before .before .pre .0)
+known c = fit _ _ (Given c .pre .passed)
 
--- The list that is lent has room for the finishes.
-room : (c : tie.After-slice-known) → size (Set c) ≤ length (c .before .before .before .before .before .before .before .before .args .finishes .now)
-room c = omega (arith, known c .few, c .before .before .before .before .before .before .before .before .pre .1)
+-- The list has room for the finishes.
+room : (c : tie.After-slice-known) → size (Set c) ≤ length (Given c .args .finishes .now)
+room c = omega (arith, known c .few, Given c .pre .room)
 
 -- The part of it that was lent on, after the run, and the finishes of the run.
 abbrev Lent : tie.After-simulate → List ℕ
@@ -40,12 +46,11 @@ Finishes c = run (Set c) (Proposed c) (Set c .executions) .finishes
 wrote : (c : tie.After-simulate) → Lent c ≡ Finishes (c .before .before)
 wrote c =
     let k = c .before .before in
-    c .simulate .ensures .1
-    ∙ ran (Set k) (Proposed k) (k .before .before .before .before .before .before .before .before .pre .0) (take (size (Set k)) (k .before .before .before .before .before .before .before .before .args .finishes .now))
-    (length-take-le (size (Set k)) (k .before .before .before .before .before .before .before .before .args .finishes .now) (room k))
+    c .simulate .ensures .writes
+    ∙ ran (Set k) (Proposed k) (Given k .pre .passed) _ (length-take-le (size (Set k)) (Given k .args .finishes .now) (room k))
 
 many : (c : tie.After-slice-known) → length (Finishes c) ≡ size (Set c)
-many c = ran-length (Set c) (Proposed c) (c .before .before .before .before .before .before .before .before .pre .0)
+many c = run-length (Set c) (Proposed c) (Set c .executions)
 
 -- The list starts with it.
 back : (c : tie.After-simulate) (xs : List ℕ) → take (size (Set (c .before .before))) (Lent c ++ xs) ≡ Finishes (c .before .before)
@@ -60,10 +65,7 @@ slice-relend-prefix-simulate c = room c
 slice-aggregate-simulate : tie.Need-slice-aggregate-simulate
 slice-aggregate-simulate c =
     let k = c .before in
-    sym (length-take-le (size (Set k)) (k .before .before .before .before .before .before .before .before .args .finishes .now) (room k))
-
-simulate-requires : tie.Need-simulate-requires
-simulate-requires c κs = search needs
+    sym (length-take-le (size (Set k)) (Given k .args .finishes .now) (room k))
 
 slice-reshare-prefix-late : tie.Need-slice-reshare-prefix-late
 slice-reshare-prefix-late c =
@@ -78,9 +80,6 @@ late-requires c κs =
     let w = c .before .before .before in
     eqb-true _ _ (known (w .before .before) .lengths .further) ∙ sym (back-many w _)
 
-same-length : tie.Need-same-length
-same-length c = search needs
-
 returns : tie.Need-returns
 returns c =
     let w = c .before .before .before .before in
@@ -89,12 +88,5 @@ returns c =
 pub seven-spec : {M : Type 1} → statement M
 seven-spec =
     tie.close
-    (tie.spec
-    slice-relend-prefix-simulate
-    slice-aggregate-simulate
-    simulate-requires
-    slice-reshare-prefix-late
-    slice-aggregate-late
-    late-requires
-    same-length
-    returns)
+    (tie.spec slice-relend-prefix-simulate slice-aggregate-simulate (λ c κs. search needs) slice-reshare-prefix-late
+    slice-aggregate-late late-requires (λ c. search needs) returns)

@@ -1,123 +1,42 @@
 -- `conditions::six` meets its contract: at each turn what is left to look at decides the whole search.
 use borrow.Author.Needs.{needs}
-use Prim.Native.Nat.{ℕ, _+_, _≤_, _-_}
-use mathlib.Core.Path.{_≡_, sym, _∙_}
-use mathlib.Core.List.{List}
-use lib.ListN.{length, getD}
-use native.Mathlib.Nat.{sub-zero}
-use Rattle.subjobs.specs.declared.Judgement.{Judgement}
-use Rattle.subjobs.specs.Judging.{orElse, refusalFrom}
-use Rattle.subjobs.proofs.Searching.{refusal-step, refusal-done}
-use Rattle.checker.specs.Answers.{sixAt}
+use Prim.Native.Nat.{_-_}
+use mathlib.Core.Path.{sym, _∙_}
+use lib.ListN.{length}
+use Rattle.checker.specs.Parts.{sixIn}
+use Rattle.subjobs.proofs.Searching.{Seeking, seek-start, seek-found, seek-on, seek-done}
 use Rattle.checker.proofs.conditions.six.Statement.{statement}
 use Rattle.checker.proofs.conditions.six.Tie as tie
 
--- What is said of the place i.
-abbrev At : List ℕ → List ℕ → List ℕ → List ℕ → List ℕ → ℕ → Judgement
-At releases executions deadlines criticals proposed i =
-    sixAt i (getD releases i 0) (getD executions i 0) (getD deadlines i 0) (getD criticals i 0) (getD proposed i 0)
-
 abbrev Inv-loop : tie.InvT-loop
-Inv-loop releases executions deadlines criticals proposed i₀ i = (i ≤ length releases) × (refusalFrom (At releases executions deadlines criticals proposed) (length releases - i) i ≡ refusalFrom (At releases executions deadlines criticals proposed) (length releases) 0)
+Inv-loop releases executions deadlines criticals proposed i₀ i =
+    Seeking (sixIn releases executions deadlines criticals proposed) (length releases) i
 
 abbrev μ-loop : tie.MeasureT-loop
 μ-loop releases executions deadlines criticals proposed i₀ i = length releases - i
 
 loop-holds : tie.Need-loop-holds Inv-loop μ-loop
-loop-holds c = (search needs, simp sub-zero)
-
-abbrev Here : tie.At-loop Inv-loop μ-loop → ℕ → Judgement
-Here L =
-    let A = L .before .before .before .before .before .before .args in
-    At (A .releases .now) (A .executions .now) (A .deadlines .now) (A .criticals .now) (A .proposed .now)
-
--- The whole search at a turn: what is said of i, and what is left.
-here :
-    (c : tie.After-six-at Inv-loop μ-loop)
-    → let L = c .before .before .before .before .before .before .before in
-    let n = length (L .before .before .before .before .before .before .args .releases .now) in
-    let i = L .loop .i in
-    refusalFrom (Here L) n 0 ≡ orElse (Here L i) (refusalFrom (Here L) (n - (i + 1)) (i + 1))
-here c =
-    let T = c .before .before .before .before .before .before in
-    sym (T .before .loop .inv .1) ∙ refusal-step (Here (T .before)) _ _ (T .loop-test .taken)
-
-mul-six-at : tie.Need-mul-six-at Inv-loop μ-loop
-mul-six-at c = search needs
-
-shared-slice-read-six-at : tie.Need-shared-slice-read-six-at Inv-loop μ-loop
-shared-slice-read-six-at c = search needs
-
-mul-six-at-2 : tie.Need-mul-six-at-2 Inv-loop μ-loop
-mul-six-at-2 c = search needs
-
-shared-slice-read-six-at-2 : tie.Need-shared-slice-read-six-at-2 Inv-loop μ-loop
-shared-slice-read-six-at-2 c = search needs
-
-mul-six-at-3 : tie.Need-mul-six-at-3 Inv-loop μ-loop
-mul-six-at-3 c = search needs
-
-shared-slice-read-six-at-3 : tie.Need-shared-slice-read-six-at-3 Inv-loop μ-loop
-shared-slice-read-six-at-3 c = search needs
-
-mul-six-at-4 : tie.Need-mul-six-at-4 Inv-loop μ-loop
-mul-six-at-4 c = search needs
-
-shared-slice-read-six-at-4 : tie.Need-shared-slice-read-six-at-4 Inv-loop μ-loop
-shared-slice-read-six-at-4 c = search needs
-
-mul-six-at-5 : tie.Need-mul-six-at-5 Inv-loop μ-loop
-mul-six-at-5 c = search needs
-
-shared-slice-read-six-at-5 : tie.Need-shared-slice-read-six-at-5 Inv-loop μ-loop
-shared-slice-read-six-at-5 c = search needs
-
-six-at-requires : tie.Need-six-at-requires Inv-loop μ-loop
-six-at-requires c κs = search needs
-
-add-i : tie.Need-add-i Inv-loop μ-loop
-add-i c = search needs
-
-enum-known-found : tie.Need-enum-known-found Inv-loop μ-loop
-enum-known-found c = search needs
+loop-holds c = seek-start _ _
 
 returns : tie.Need-returns Inv-loop μ-loop
-returns c = let F = c .before .before .before in sym (here F ∙ rw (← F .six-at .ensures, c .before .found .given .1))
-
-enum-told : tie.Need-enum-told Inv-loop μ-loop
-enum-told c = search needs
-
-loop-less : tie.Need-loop-less Inv-loop μ-loop
-loop-less c = search needs
+returns c =
+    let F = c .before .before .before in
+    let T = F .before .before .before .before .before .before in
+    seek-found (T .before .loop .inv) (T .loop-test .taken) _ (sym (F .six-at .ensures) ∙ c .before .found .given .1)
 
 loop-again : tie.Need-loop-again Inv-loop μ-loop
-loop-again c = let F = c .before .before in (search needs, sym (here F ∙ rw (← F .six-at .ensures, c .enum-told .given .1)))
+loop-again c =
+    let F = c .before .before in
+    let T = F .before .before .before .before .before .before in
+    seek-on (T .before .loop .inv) (T .loop-test .taken) (sym (F .six-at .ensures) ∙ c .enum-told .given .1)
 
 returns-2 : tie.Need-returns-2 Inv-loop μ-loop
-returns-2 c = let L = c .before in sym (sym (L .loop .inv .1) ∙ refusal-done (Here L) _ _ (c .loop-test .left))
+returns-2 c = seek-done (c .before .loop .inv) (c .loop-test .left)
 
 pub six-spec : {M : Type 1} → statement M
 six-spec =
     tie.close
-    (tie.spec
-    Inv-loop
-    μ-loop
-    loop-holds
-    mul-six-at
-    shared-slice-read-six-at
-    mul-six-at-2
-    shared-slice-read-six-at-2
-    mul-six-at-3
-    shared-slice-read-six-at-3
-    mul-six-at-4
-    shared-slice-read-six-at-4
-    mul-six-at-5
-    shared-slice-read-six-at-5
-    six-at-requires
-    add-i
-    enum-known-found
-    returns
-    enum-told
-    loop-less
-    loop-again
-    returns-2)
+    (tie.spec Inv-loop μ-loop loop-holds (λ c. search needs) (λ c. search needs) (λ c. search needs)
+    (λ c. search needs) (λ c. search needs) (λ c. search needs) (λ c. search needs) (λ c. search needs)
+    (λ c. search needs) (λ c. search needs) (λ c κs. search needs) (λ c. search needs) (λ c. search needs) returns
+    (λ c. search needs) (λ c. search needs) loop-again returns-2)

@@ -8,9 +8,6 @@ use Rattle.edf.proofs.events.stretch.Tie as tie
 returns : tie.Need-returns
 returns c = simp (le-leb _ _ (c .if1 .taken))
 
-sub-room : tie.Need-sub-room
-sub-room c = search needs
-
 returns-2 : tie.Need-returns-2
 returns-2 c = simp (lt-leb _ _ (c .before .if1 .left)) (omega arith)
 
@@ -18,4 +15,5 @@ returns-3 : tie.Need-returns-3
 returns-3 c = simp (lt-leb _ _ (c .before .if1 .left)) (omega arith)
 
 pub stretch-spec : {M : Type 1} → statement M
-stretch-spec = tie.close (tie.spec returns sub-room returns-2 returns-3)
+stretch-spec = tie.close
+    (tie.spec returns (λ c. search needs) returns-2 returns-3)

@@ -1,125 +1,72 @@
 -- `runs::run_out` meets its contract: at each turn the program holds what the core of single ticks has at that moment.
 use borrow.Author.Needs.{needs}
-use Prim.Native.Nat.{_<_}
-use mathlib.Core.Path.{_≡_, _∙_}
+use mathlib.Core.Path.{_≡_, refl, _∙_}
 use lib.ListN.{length, length-set}
 use native.Mathlib.Omega.{arith}
-use Rattle.edf.specs.Parts.{Sized}
-use Rattle.ticks.proofs.Turns.{reached-start}
-use Rattle.edf.proofs.Running.{Lists, lists, Holds, Served, turnsLeft, owing, serves-on, waits-on, ends-here}
+use Rattle.ticks.proofs.Turns.{Reached, eventsLeft, reached-start}
+use Rattle.edf.specs.Parts.{Lists, lists, loadIn}
+use Rattle.edf.proofs.Running.{Event, Served, owing, serves-on, waits-on, ends-here}
 use Rattle.edf.proofs.runs.run_out.Statement.{statement}
 use Rattle.edf.proofs.runs.run_out.Tie as tie
 
 abbrev Inv-loop : tie.InvT-loop
 Inv-loop jobs subtasks releases executions local asks n served₀ finish₀ busy₀ t₀ served finish busy t =
-    (length served ≡ 128) × (length finish ≡ 128) × Holds (lists jobs subtasks releases executions local asks) served finish busy t
+    (length served ≡ 128)
+    × (length finish ≡ 128)
+    × Reached (loadIn (lists jobs subtasks releases executions local asks)) served finish busy t
 
 abbrev μ-loop : tie.MeasureT-loop
 μ-loop jobs subtasks releases executions local asks n served₀ finish₀ busy₀ t₀ served finish busy t =
-    turnsLeft (lists jobs subtasks releases executions local asks) served t
+    eventsLeft (loadIn (lists jobs subtasks releases executions local asks)) t served
 
--- What the function was lent, and that it is of one length.
+-- What the function was lent.
 abbrev Lent : tie.At-loop Inv-loop μ-loop → Lists
 Lent L =
     let A = L .before .before .before .before .before .before .before .args in
     lists (A .jobs .now) (A .subtasks .now) (A .releases .now) (A .executions .now) (A .local .now) (A .asks .now)
 
-sized :
-    (L : tie.At-loop Inv-loop μ-loop)
-    → Sized (Lent L .jobs) (Lent L .subtasks) (Lent L .releases) (Lent L .executions) (Lent L .local) (Lent L .asks)
-sized L = L .before .before .before .before .before .before .before .pre .0
+-- What is known at an event.
+event :
+    (N : tie.After-next-release Inv-loop μ-loop)
+    → let L = N .before .before .before in
+    Event (Lent L) (L .loop .served) (L .loop .finish) (L .loop .busy) (L .loop .t) (N .before .to-serve .result) (N .next-release .result)
+event N =
+    let L = N .before .before .before in
+    record {
+      fits = L .before .before .before .before .before .before .before .pre;
+      holds = L .loop .inv .2;
+      serves = N .before .to-serve .ensures;
+      next = N .next-release .ensures;
+    }
 
 -- A stretch served to the one to serve.
 served :
     (c : tie.After-stretch Inv-loop μ-loop)
-    → let L = c .before .before .before .before .before .before .before .before in
-    Served (Lent L) (L .loop .served) (L .loop .finish) (L .loop .busy) (L .loop .t) (c .before .before .before .before .before .before .to-serve .result) (c .stretch .result)
+    → let N = c .before .before .before .before .before in
+    let L = N .before .before .before in
+    Served (Lent L) (L .loop .served) (L .loop .finish) (L .loop .busy) (L .loop .t) (N .before .to-serve .result) (c .stretch .result)
 served c =
-    let N = c .before .before .before .before .before in
-    let L = N .before .before .before in
-    serves-on (Lent L) (sized L) (L .loop .served) (L .loop .finish) (L .loop .busy) (L .loop .t) (L .loop .inv .2)
-    (N .before .to-serve .result) (N .next-release .result) (N .before .to-serve .ensures) (N .next-release .ensures)
-    (L .before .before .before .before .before .before .before .pre .1) (c .stretch .result) (c .before .before .before .before .if1 .taken) (c .stretch .ensures ∙ rw (c .before .owed .ensures))
-
--- A wait for the next release.
-waited :
-    (c : tie.Else2 Inv-loop μ-loop)
-    → let L = c .before .before .before .before .before in
-    let next = c .before .before .next-release .result in
-    Holds (Lent L) (L .loop .served) (L .loop .finish) (L .loop .busy) next
-    × (turnsLeft (Lent L) (L .loop .served) next < turnsLeft (Lent L) (L .loop .served) (L .loop .t))
-waited c =
-    let N = c .before .before in
-    let L = N .before .before .before in
-    waits-on (Lent L) (sized L) (L .loop .served) (L .loop .finish) (L .loop .busy) (L .loop .t) (L .loop .inv .2)
-    (N .before .to-serve .result) (N .next-release .result) (N .before .to-serve .ensures) (N .next-release .ensures)
-    (c .before .if1 .left) (c .if2 .left)
+    serves-on (event (c .before .before .before .before .before)) (c .stretch .result) (c .before .before .before .before .if1 .taken)
+    (c .stretch .ensures ∙ rw (c .before .owed .ensures))
 
 loop-holds : tie.Need-loop-holds Inv-loop μ-loop
-loop-holds c = (search needs, search needs, reached-start _ _ _ _)
+loop-holds c = (search needs, search needs, reached-start _)
 
 to-serve-requires : tie.Need-to-serve-requires Inv-loop μ-loop
-to-serve-requires c κs = sized (c .before)
-
-next-release-requires : tie.Need-next-release-requires Inv-loop μ-loop
-next-release-requires c κs = search needs
-
-mul-owed : tie.Need-mul-owed Inv-loop μ-loop
-mul-owed c = search needs
-
-shared-slice-read-owed : tie.Need-shared-slice-read-owed Inv-loop μ-loop
-shared-slice-read-owed c = search needs
-
-mul-owed-2 : tie.Need-mul-owed-2 Inv-loop μ-loop
-mul-owed-2 c = search needs
-
-shared-slice-read-owed-2 : tie.Need-shared-slice-read-owed-2 Inv-loop μ-loop
-shared-slice-read-owed-2 c = search needs
-
-owed-requires : tie.Need-owed-requires Inv-loop μ-loop
-owed-requires c κs = search needs
-
-mul-before : tie.Need-mul-before Inv-loop μ-loop
-mul-before c = search needs
-
-array-read-before : tie.Need-array-read-before Inv-loop μ-loop
-array-read-before c = search needs
+to-serve-requires c κs = c .before .before .before .before .before .before .before .before .pre
 
 sub-stretch : tie.Need-sub-stretch Inv-loop μ-loop
 sub-stretch c =
-    let N = c .before .before .before .before in
-    let L = N .before .before .before in
-    omega (
-      arith,
-      c .owed .ensures,
-      owing (Lent L) (sized L) (L .loop .served) (L .loop .finish) (L .loop .busy) (L .loop .t) (L .loop .inv .2)
-          (N .before .to-serve .result) (N .next-release .result) (N .before .to-serve .ensures) (N .next-release .ensures)
-          (c .before .before .before .if1 .taken),
-    )
-
-stretch-requires : tie.Need-stretch-requires Inv-loop μ-loop
-stretch-requires c κs = search needs
+    omega (arith, c .owed .ensures, owing (event (c .before .before .before .before)) (c .before .before .before .if1 .taken))
 
 add-served : tie.Need-add-served Inv-loop μ-loop
 add-served c = omega (arith, served c .room)
-
-mul-served : tie.Need-mul-served Inv-loop μ-loop
-mul-served c = search needs
-
-array-write-served : tie.Need-array-write-served Inv-loop μ-loop
-array-write-served c = search needs
 
 add-busy : tie.Need-add-busy Inv-loop μ-loop
 add-busy c = omega (arith, served c .busy)
 
 add-t : tie.Need-add-t Inv-loop μ-loop
 add-t c = omega (arith, served c .moment)
-
-mul-finish : tie.Need-mul-finish Inv-loop μ-loop
-mul-finish c = search needs
-
-array-write-finish : tie.Need-array-write-finish Inv-loop μ-loop
-array-write-finish c = search needs
 
 loop-less : tie.Need-loop-less Inv-loop μ-loop
 loop-less c = served c .fewer
@@ -128,46 +75,18 @@ loop-again : tie.Need-loop-again Inv-loop μ-loop
 loop-again c = (simp length-set (search needs), simp length-set (search needs), served c .holds)
 
 returns : tie.Need-returns Inv-loop μ-loop
-returns c =
-    let N = c .before .before in
-    let L = N .before .before .before in
-    ends-here (Lent L) (sized L) (L .loop .served) (L .loop .finish) (L .loop .busy) (L .loop .t) (L .loop .inv .2)
-    (N .before .to-serve .result) (N .next-release .result) (N .before .to-serve .ensures) (N .next-release .ensures)
-    (c .before .if1 .left) (c .if2 .taken)
+returns c = ends-here (event (c .before .before)) (c .before .if1 .left) (c .if2 .taken) _ refl refl
 
 loop-less-2 : tie.Need-loop-less-2 Inv-loop μ-loop
-loop-less-2 c = waited c .1
+loop-less-2 c = waits-on (event (c .before .before)) (c .before .if1 .left) (c .if2 .left) .1
 
 loop-again-2 : tie.Need-loop-again-2 Inv-loop μ-loop
-loop-again-2 c = (search needs, search needs, waited c .0)
+loop-again-2 c = (search needs, search needs, waits-on (event (c .before .before)) (c .before .if1 .left) (c .if2 .left) .0)
 
 pub run-out-spec : {M : Type 1} → statement M
 run-out-spec =
     tie.close
-    (tie.spec
-    Inv-loop
-    μ-loop
-    loop-holds
-    to-serve-requires
-    next-release-requires
-    mul-owed
-    shared-slice-read-owed
-    mul-owed-2
-    shared-slice-read-owed-2
-    owed-requires
-    mul-before
-    array-read-before
-    sub-stretch
-    stretch-requires
-    add-served
-    mul-served
-    array-write-served
-    add-busy
-    add-t
-    mul-finish
-    array-write-finish
-    loop-less
-    loop-again
-    returns
-    loop-less-2
-    loop-again-2)
+    (tie.spec Inv-loop μ-loop loop-holds to-serve-requires (λ c κs. search needs) (λ c. search needs)
+    (λ c. search needs) (λ c. search needs) (λ c. search needs) (λ c κs. search needs) (λ c. search needs)
+    (λ c. search needs) sub-stretch (λ c κs. search needs) add-served (λ c. search needs) (λ c. search needs) add-busy
+    add-t (λ c. search needs) (λ c. search needs) loop-less loop-again returns loop-less-2 loop-again-2)

@@ -2,12 +2,14 @@
 use borrow.Author.Needs.{needs}
 use Prim.Native.Nat.{ℕ, _-_}
 use mathlib.Core.List.{List}
+use mathlib.Core.Bool.{Bool, not}
 use mathlib.Core.Path.{_≡_, refl, sym, _∙_}
 use lib.ListN.{length, getD}
 use Rattle.lists.specs.Search.{someFrom}
 use Rattle.subjobs.specs.declared.Judgement.{Judgement}
-use Rattle.subjobs.specs.Judging.{refusalFrom, pairAt}
-use Rattle.subjobs.proofs.Searching.{refusal-step, refusal-done, refusal-second}
+use Rattle.subjobs.specs.declared.Reason.the-variants.{Pair}
+use Rattle.subjobs.specs.Judging.{unless, refusalFrom, pairAt}
+use Rattle.subjobs.proofs.Searching.{refusal-turn, refusal-end, refusal-second}
 use Rattle.subjobs.proofs.judging.pairs.Statement.{statement}
 use Rattle.subjobs.proofs.judging.pairs.Tie as tie
 
@@ -16,60 +18,32 @@ abbrev At : List ℕ → List ℕ → ℕ → Judgement
 At jobs subtasks = pairAt (λ j. getD jobs j 0) (λ j. getD subtasks j 0)
 
 abbrev Inv-loop : tie.InvT-loop
-Inv-loop jobs subtasks i₀ i = refusalFrom (At jobs subtasks) (length jobs - i) i ≡ refusalFrom (At jobs subtasks) (length jobs) 0
+Inv-loop js ks i₀ i = refusalFrom (At js ks) (length js - i) i ≡ refusalFrom (At js ks) (length js) 0
 
 abbrev μ-loop : tie.MeasureT-loop
-μ-loop jobs subtasks i₀ i = length jobs - i
+μ-loop js ks i₀ i = length js - i
 
-loop-holds : tie.Need-loop-holds Inv-loop μ-loop
+-- Before place 0 there is none.
+starts : tie.Need-loop-holds Inv-loop μ-loop
 unfolding someFrom
-loop-holds c =
-    let a = c .before .before .args in
-    refusal-second (At (a .jobs .now) (a .subtasks .now)) (length (a .jobs .now)) refl
+starts c = let a = c .before .before .args in refusal-second (At (a .jobs .now) (a .subtasks .now)) (length (a .jobs .now)) refl
 
-seen-earlier-requires : tie.Need-seen-earlier-requires Inv-loop μ-loop
-seen-earlier-requires c κs = search needs
-
-returns : tie.Need-returns Inv-loop μ-loop
-returns c =
-    let L = c .before .before .before in
-    let A = L .before .before .before .args in
-    sym
-    (sym (L .loop .inv)
-    ∙ refusal-step (At (A .jobs .now) (A .subtasks .now)) _ _ (c .before .before .loop-test .taken)
-    ∙ rw (← c .before .seen-earlier .ensures, c .if1 .taken))
-
-add-i : tie.Need-add-i Inv-loop μ-loop
-add-i c = search needs
-
-loop-less : tie.Need-loop-less Inv-loop μ-loop
-loop-less c = search needs
-
-loop-again : tie.Need-loop-again Inv-loop μ-loop
-loop-again c =
-    let L = c .before .before .before in
-    let A = L .before .before .before .args in
-    sym
-    (sym (L .loop .inv)
-    ∙ refusal-step (At (A .jobs .now) (A .subtasks .now)) _ _ (c .before .before .loop-test .taken)
-    ∙ rw (← c .before .seen-earlier .ensures, c .if1 .left))
-
-returns-2 : tie.Need-returns-2 Inv-loop μ-loop
-returns-2 c =
-    let L = c .before in
-    let A = L .before .before .before .args in
-    sym (sym (L .loop .inv) ∙ refusal-done (At (A .jobs .now) (A .subtasks .now)) _ _ (c .loop-test .left))
+unless-seen : (i : ℕ) (a : Bool) {b : Bool} → a ≡ b → unless (not a) (Pair i) ≡ unless (not b) (Pair i)
+unless-seen i a e = rw e
 
 pub pairs-spec : {M : Type 1} → statement M
 pairs-spec =
     tie.close
-    (tie.spec
-    Inv-loop
-    μ-loop
-    loop-holds
-    seen-earlier-requires
-    returns
-    add-i
-    loop-less
-    loop-again
-    returns-2)
+    (tie.spec Inv-loop μ-loop starts
+    (λ c κs. search needs)
+    -- a pair was seen
+    (λ c.
+    let T = c .before .before in
+    refusal-turn _ _ _ (T .before .loop .inv) (T .loop-test .taken) (unless-seen _ _ (sym (c .before .seen-earlier .ensures) ∙ c .if1 .taken)))
+    (λ c. search needs) (λ c. search needs)
+    -- a pair is new
+    (λ c.
+    let T = c .before .before in
+    refusal-turn _ _ _ (T .before .loop .inv) (T .loop-test .taken) (unless-seen _ _ (sym (c .before .seen-earlier .ensures) ∙ c .if1 .left)))
+    -- all are new
+    (λ c. refusal-end _ _ _ (c .before .loop .inv) (c .loop-test .left)))

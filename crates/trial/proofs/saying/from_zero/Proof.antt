@@ -20,16 +20,15 @@ not-below (negsuc n) e f = absurd (true≢false e)
 read-back : (c : tie.Start) → SFits w64 (toZ w64 (ofZ w64 (c .args .x)))
 read-back c = toZ-fits w64 _ (ofZ-fits w64 _ (c .fits .x))
 
-returns : tie.Need-returns
-returns c = search needs
-
 cast-result : tie.Need-cast-result
 cast-result c =
     let b = not-below _ (c .if1 .left) (read-back (c .before)) in
     (b .0, record { fits = omega arith })
 
-returns-2 : tie.Need-returns-2
-returns-2 c = not-below _ (c .if1 .left) (read-back (c .before)) .1
-
 pub from-zero-spec : {M : Type 1} → statement M
-from-zero-spec = tie.close (tie.spec returns cast-result returns-2)
+from-zero-spec =
+    tie.close
+    (tie.spec
+    (λ c. search needs)
+    cast-result
+    (λ c. not-below _ (c .if1 .left) (read-back (c .before)) .1))
