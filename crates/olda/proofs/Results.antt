@@ -37,20 +37,13 @@ never-refused s d r e =
 
 module _ (s : Subjobs) where
   module _ {others : Bool} (f : Fit s others) where
-    -- A set that passes refusal 3 has executions of at least 1.
-    fit-ones : Ones (execution s) (places (size s))
-    fit-ones i m = f .ranges i (places-in (size s) i m) .some
-
     -- The method gives as many deadlines as there are sub-jobs, or gets stuck at one of them.
     pub fit-length : (out : List ℕ) → length out ≡ size s → (w : Outcome) → method s ≡ w → length (written w out) ≡ length out
     fit-length out l (stuck p m) e = refl
-    fit-length out l (placed ds) e = method-placed s fit-ones ds .0 e .0 ∙ sym l
+    fit-length out l (placed ds) e = method-placed s f ds .0 e .0 ∙ sym l
 
     pub fit-inside : (p m : ℕ) → method s ≡ stuck p m → p < size s
-    fit-inside p m e = places-in (size s) p (refused-in (terms s) (places (size s)) (method-stuck s fit-ones p m .0 e))
-
-  pub passed-ones : (others : Bool) → judgement s others ≡ judged.Passed → Ones (execution s) (places (size s))
-  passed-ones others e = fit-ones (fit s others e)
+    fit-inside p m e = places-in (size s) p (refused-in (terms s) (places (size s)) (method-stuck s f p m .0 e))
 
   pub results-length : (out : List ℕ) → length (results s out) ≡ length out
   unfolding results

@@ -71,7 +71,7 @@ module _
 
   ready : Ready (terms s) (servedBefore s ds) sorted
   ready =
-      let total = sooner-total d (job s) (subtask s) (size s) (fit .pairs) in
+      let total = sooner-total d s (fit .pairs) in
       record {
         ones = λ i m. fit .ranges i (below m) .some;
         sorted = inorder-inOrder (release s) (size s);

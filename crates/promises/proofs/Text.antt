@@ -40,7 +40,7 @@ use Rattle.promises.specs.Words.{accepted, Assigned, at}
 use Rattle.promises.specs.Text as says
 use Rattle.promises.specs.Text.{refusedLine, printed, Tabled, TableSays, TableAnswers, OneLineEach, AnswerFits}
 use Rattle.promises.proofs.Faulted.{refused-number}
-use Rattle.promises.proofs.Assign.{fit-ones, refused-answer, placed-answer, stuck-answer, report-accepted, assigned-rules}
+use Rattle.promises.proofs.Assign.{refused-answer, placed-answer, stuck-answer, report-accepted, assigned-rules}
 
 -- An answer whose number is 0 is no refusal.
 no-refusal : (a : Answer) → accepted (olda.values a) → verdictOf a ≡ judged.Passed
@@ -136,7 +136,7 @@ module _ (text : List ℕ) where
     by-method : Fit (setOf rows) true → (w : Outcome) → method (setOf rows) ≡ w → TableSays text (tabled (setOf rows))
     by-method f (stuck p m) q =
         let s = setOf rows in
-        rw (is-stuck s f q, line-of (Late p m (bound (terms s) p))) (says.late t f (method-stuck s (fit-ones s true f) p m .0 q))
+        rw (is-stuck s f q, line-of (Late p m (bound (terms s) p))) (says.late t f (method-stuck s f p m .0 q))
     by-method f (placed ds) q = rw (is-placed (setOf rows) f q) (says.accepted t (gives (setOf rows) f q))
 
     by-set : TableSays text (tabled (setOf rows))
@@ -168,12 +168,12 @@ module _ (text : List ℕ) where
   only (says.pair t f) = faulting t f
   only (says.late {rows} {p} {m} t f h) =
       let s = setOf rows in
-      sym (is-read t ∙ is-stuck s f (method-stuck s (fit-ones s true f) p m .1 h) ∙ line-of (Late p m (bound (terms s) p)))
+      sym (is-read t ∙ is-stuck s f (method-stuck s f p m .1 h) ∙ line-of (Late p m (bound (terms s) p)))
   only (says.accepted {rows} {ds} t h) =
       let s = setOf rows in
       let w = assigned-rules s ds h in
       let f : Fit s true = rw (w .0 .lengths .further) at (w .0) in
-      sym (is-read t ∙ is-placed s f (method-placed s (fit-ones s true f) ds .1 (w .1, w .2)))
+      sym (is-read t ∙ is-placed s f (method-placed s f ds .1 (w .1, w .2)))
 
 pub table-answers : TableAnswers
 table-answers text = (by-reading text refl (read-exactly text (read text) .0 refl), λ o h. only text h)
@@ -184,7 +184,7 @@ one-line-each s ds h =
     let w = assigned-rules s ds h in
     let f : Fit s true = rw (w .0 .lengths .further) at (w .0) in
     accepted-lines s ds
-    (record { passed = fit-passes s true f; is = method-placed s (fit-ones s true f) ds .1 (w .1, w .2) })
+    (record { passed = fit-passes s true f; is = method-placed s f ds .1 (w .1, w .2) })
 
 pub answer-fits : AnswerFits
 answer-fits = answer-length
