@@ -48,14 +48,14 @@ empty s d z = rw z over
 
 -- The report of deadlines ds: nothing for an empty set, and otherwise the least slack and the smallest place that has it.
 module _ (s : Subjobs) (ds : List ℕ) where
-  report-none : size s ≡ 0 → report s (at ds) ≡ Nothing
+  pub report-none : size s ≡ 0 → report s (at ds) ≡ Nothing
   unfolding report
   report-none z =
       split (choose-cases (bySlack (terms s) (at ds)) (places (size s)))
       (λ w. rw (w .1))
       (λ w. absurd (omega (arith, places-in (size s) (w .0) (w .1))))
 
-  report-some :
+  pub report-some :
       (p : ℕ)
       → choose (bySlack (terms s) (at ds)) (places (size s)) ≡ some p
       → report s (at ds) ≡ Placed (record { slack = slack (terms s) (at ds) p; place = p })
@@ -72,7 +72,7 @@ module _ (s : Subjobs) (ds : List ℕ) where
       ∙ bound-order (terms s .deadline) (λ i. terms s .withheld i + at ds i) .irrefl q)
 
   -- The place that is chosen is reported ..
-  chosen-reported :
+  pub chosen-reported :
       {p : ℕ} → choose (bySlack (terms s) (at ds)) (places (size s)) ≡ some p → Reported s ds p (slack (terms s) (at ds) p)
   chosen-reported {p} e =
       let o = bound-order (terms s .deadline) (λ i. terms s .withheld i + at ds i) in
@@ -107,6 +107,10 @@ report-accepted s ds =
     (λ w. rw (report-none s ds (places-nil (size s) (w .0))) refl)
     (λ w. rw (report-some s ds (w .0) (w .2)) refl)
 
+pub nil : (l : List ℕ) → length l ≡ 0 → l ≡ []
+nil [] e = refl
+nil (x ∷ l) e = absurd (omega arith)
+
 -- What `assign` answers and leaves, by what the judgement and the method say.
 module _ (s : Subjobs) (out : List ℕ) where
   pub refused-answer : {r : Reason} → judgement s (resultsFit s out) ≡ judged.Refused r → (answer s (length out) ≡ Refused r) × (results s out ≡ out)
@@ -137,10 +141,6 @@ module _ (s : Subjobs) (out : List ℕ) where
         let z = places-nil (size s) (w .0) in
         rw (a .0, a .1, report-none s ds z, nil ds (b .0 ∙ z)) (says.nothing f z))
         (λ w. rw (a .0, a .1, report-some s ds (w .0) (w .2)) (says.placed f (b .0) (b .1) (chosen-reported s ds (w .2))))
-      where
-        nil : (l : List ℕ) → length l ≡ 0 → l ≡ []
-        nil [] e = refl
-        nil (x ∷ l) e = absurd (omega arith)
 
   says-so : AssignSays s out (values (answer s (length out))) (results s out)
   says-so =

@@ -10,3 +10,4 @@ pub mod Cases
 pub mod Door
 pub mod Outcomes
 pub mod Example
+pub mod Reordering

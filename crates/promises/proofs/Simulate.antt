@@ -33,15 +33,15 @@ use Rattle.promises.proofs.Faulted.{faulted, judged-cases, refused-numb
 
 -- What the simulator answers and leaves, by what the judgement and the totals say.
 module _ (s : Subjobs) (ds asks fs : List ℕ) (t : Totals) where
-  abbrev further : Bool
+  abbrev pub further : Bool
   further = furtherLists s ds asks (length fs)
 
   -- The answer with the list and the totals that are left.
-  abbrev Leaves : Answer → List ℕ → Totals → Type 0
+  abbrev pub Leaves : Answer → List ℕ → Totals → Type 0
   Leaves r l u =
       (answer s ds asks (length fs) t ≡ r) × (finishes s ds asks fs t ≡ l) × (totals s ds asks (length fs) t ≡ u)
 
-  refused-leaves : {r : Reason} → judgement s further ≡ judged.Refused r → Leaves (Refused r) fs t
+  pub refused-leaves : {r : Reason} → judgement s further ≡ judged.Refused r → Leaves (Refused r) fs t
   unfolding answer finishes totals
   refused-leaves e = (rw e, rw e, rw e)
 
@@ -49,11 +49,11 @@ module _ (s : Subjobs) (ds asks fs : List ℕ) (t : Totals) where
     passed : judgement s further ≡ judged.Passed
     passed = fit-passes s further f
 
-    above-leaves : above (added (run s ds asks) t) ≡ true → Leaves (Refused reason.Totals) fs t
+    pub above-leaves : above (added (run s ds asks) t) ≡ true → Leaves (Refused reason.Totals) fs t
     unfolding answer finishes totals
     above-leaves e = (rw (passed, e), rw (passed, e), rw (passed, e))
 
-    ran-leaves :
+    pub ran-leaves :
         above (added (run s ds asks) t) ≡ false
         → Leaves (Ran (record { end = run s ds asks .end })) (run s ds asks .finishes) (added (run s ds asks) t)
     unfolding answer finishes totals

@@ -4,14 +4,16 @@ use Prim.Native.Nat.{ℕ}
 use mathlib.Core.Bool.{Bool}
 use mathlib.Core.List.{List, List·Memᴰ}
 use mathlib.Core.Path.{_≡_, sym, ap, _∙_}
-use lib.ListN.{length, getD}
+use native.Mathlib.Omega.{arith}
+use lib.ListN.{getD}
 use Rattle.lists.specs.Places.{places, Rearranges, taken}
 use Rattle.lists.proofs.Members.{places-in}
+use Rattle.lists.proofs.Renamed.{moved-in}
 use Rattle.lists.proofs.Taken.{standing, taken-length, taken-at}
 use Rattle.subjobs.specs.Sets.{Subjobs, size, rearranged}
 use Rattle.subjobs.specs.Terms.{terms}
 use Rattle.subjobs.specs.Faults.{OneLength, Fit}
-use Rattle.subjobs.proofs.Rearranging.{Alike, alike-back, alike-inside, rearranged-size, rearranged-alike, rearranged-fit}
+use Rattle.subjobs.proofs.Rearranging.{Alike, alike-back, rearranged-size, rearranged-alike, rearranged-fit}
 use Rattle.rules.specs.Method.{placed, stuck, method}
 use Rattle.rules.proofs.Renaming.{Renamed, renamed-back, renamed-accepts, renamed-refuses}
 use Rattle.rules.proofs.Obeys.{method-placed, method-stuck}
@@ -40,13 +42,17 @@ alike-renamed e =
     }
 
 module _ (ps : List ℕ) (s : Subjobs) (r : Rearranges ps (size s)) where
-  -- A list of deadlines taken in the order of ps has for each sub-job what it had.
+  -- A list of deadlines taken in the order of ps has for each sub-job what it had, by its new place and by its old one.
+  pub taken-there :
+      (ds : List ℕ) (i : ℕ) → List·Memᴰ i (places (size (rearranged ps s))) → getD (taken ps ds) i 0 ≡ getD ds (getD ps i 0) 0
+  taken-there ds i m =
+      taken-at ps (size s) r ds i (omega (arith, places-in (size (rearranged ps s)) i m, rearranged-size ps s r))
+
   pub taken-back : (ds : List ℕ) (j : ℕ) → List·Memᴰ j (places (size s)) → getD ds j 0 ≡ getD (taken ps ds) (standing ps j) 0
   taken-back ds j m =
       let a = alike-back (rearranged-alike ps s r) in
-      let h = alike-inside a j (places-in (size s) j m) in
       ap (λ (i : ℕ). getD ds i 0) (sym (a .back j m))
-      ∙ sym (taken-at ps (size s) r ds (standing ps j) (rw (rearranged-size ps s r) at h))
+      ∙ sym (taken-there ds (standing ps j) (moved-in (standing ps) (places (size s)) (places (size (rearranged ps s))) (a .moved) m))
 
   module _ {others : Bool} (f : Fit s others) where
     fit′ : Fit (rearranged ps s) others

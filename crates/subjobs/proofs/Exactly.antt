@@ -3,7 +3,7 @@
 use Prim.Native.Nat.{ℕ, zero, suc, _+_, _<_, _≤_}
 use mathlib.Core.Bool.{Bool, true, false}
 use mathlib.Core.Logic.{_⊎_, _↔_, inl, inr}
-use mathlib.Core.Path.{_≡_, refl, sym, _∙_, subst}
+use mathlib.Core.Path.{_≡_, refl, sym, ap, _∙_, subst}
 use native.Mathlib.Omega.{arith}
 use lib.Dec.{eqb}
 use Rattle.lists.proofs.Cases.{split, test, clash, tests}
@@ -117,9 +117,19 @@ pub data SameNumber : Judgement → Judgement → Type 0 where
   pass : SameNumber Passed Passed
   refuse : {r r′ : Reason} → numberOf r ≡ numberOf r′ → SameNumber (Refused r) (Refused r′)
 
-pub same-or : {a a′ b b′ : Judgement} → SameNumber a a′ → SameNumber b b′ → SameNumber (orElse a b) (orElse a′ b′)
-same-or pass y = y
+pub same-or :
+    {a a′ b b′ : Judgement} → SameNumber a a′ → (a ≡ Passed → SameNumber b b′) → SameNumber (orElse a b) (orElse a′ b′)
+same-or pass y = y refl
 same-or (refuse e) y = refuse e
+
+-- Where one refuses, so does the other.
+pub same-refused :
+    {j j′ : Judgement} {r : Reason}
+    → SameNumber j j′
+    → j ≡ Refused r
+    → (r′ : Reason) × (j′ ≡ Refused r′) × (numberOf r ≡ numberOf r′)
+same-refused {r = r} pass e = refused-passed r (sym e)
+same-refused {r = r} (refuse {r = q} {r′ = r′} n) e = let g : r ≡ q = cc in (r′, refl, ap numberOf g ∙ n)
 
 -- They are so if they pass alike and every reason of theirs has the number n.
 pub same-exactly :

@@ -137,13 +137,16 @@ module _ (ps : List ℕ) (s : Subjobs) (r : Rearranges ps (size s)) where
         same-or
         (same-exactly 1 (lengths-exactly s others) (lengths-exactly s′ others) (λ h. rearranged-lengths (l .further)) (λ h. l)
         (λ r q. ap numberOf (q .0)) (λ r q. ap numberOf (q .0)))
-        (same-or
+        (λ e.
+        same-or
         (same-exactly 2 (few-exactly s others) (few-exactly s′ others) (λ h. omega (arith, rearranged-size)) (λ h. omega (arith, rearranged-size))
         (λ r q. ap numberOf (q .0)) (λ r q. ap numberOf (q .0)))
-        (same-or
+        (λ e.
+        same-or
         (same-exactly 3 (ranges-exactly s others) (ranges-exactly s′ others) (alike-ranges a) (alike-ranges (alike-back a))
         (λ r q. ap numberOf (q .3 .1)) (λ r q. ap numberOf (q .3 .1)))
-        (same-exactly 4 (pairs-exactly s others) (pairs-exactly s′ others)
+        (λ e.
+        same-exactly 4 (pairs-exactly s others) (pairs-exactly s′ others)
         (λ h k b j c q. alike-pairs a (λ i m c b e f. h m b i c (e, f)) j k c b (q .0) (q .1))
         (λ h k b j c q. alike-pairs (alike-back a) (λ i m c b e f. h m b i c (e, f)) j k c b (q .0) (q .1))
         (λ r q. ap numberOf (q .3 .0)) (λ r q. ap numberOf (q .3 .0)))))

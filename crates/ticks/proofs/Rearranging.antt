@@ -1,14 +1,13 @@
 -- The run of a set whose list is rearranged, its deadlines and asks with it: the finishes are the rearranged ones, end, busy
 -- and idle ticks are the same.
-use Prim.Native.Nat.{ℕ, _<_, _≤_, min}
-use mathlib.Core.Bool.{Bool}
-use mathlib.Core.List.{List, List·Memᴰ}
-use mathlib.Core.Path.{_≡_, sym, ap, _∙_}
+use Prim.Native.Nat.{ℕ, _<_, _≤_}
+use mathlib.Core.List.{List}
+use mathlib.Core.Path.{_≡_, refl, sym, ap, _∙_}
 use native.Mathlib.Omega.{arith}
 use lib.ListN.{length, getD}
 use lib.Seq.{ext-getD}
 use Rattle.lists.specs.Places.{places, Rearranges, taken}
-use Rattle.lists.proofs.Choice.{Order}
+use Rattle.lists.proofs.Choice.{Order, Total}
 use Rattle.lists.proofs.Members.{places-in, in-places}
 use Rattle.lists.proofs.Renamed.{moved-in}
 use Rattle.lists.proofs.Taken.{standing, taken-length, taken-at}
@@ -16,11 +15,14 @@ use Rattle.subjobs.specs.Sets.{Subjobs, size, rearranged, job, subtask}
 use Rattle.subjobs.specs.Faults.{NoneTwice}
 use Rattle.subjobs.proofs.Rearranging.{alike-inside, rearranged-size, rearranged-alike}
 use Rattle.ticks.specs.Core.{Load}
-use Rattle.ticks.specs.Runs.{finish, end, busyTicks, idleTicks, servedBefore, load, runOf, run}
+use Rattle.ticks.specs.Runs.{Run, load, runOf, run}
 use Rattle.ticks.proofs.Service.{On, Counters, counters}
 use Rattle.ticks.proofs.Sooner.{sooner-order, sooner-total}
 use Rattle.ticks.proofs.Ticks.{run-length, finish-at}
 use Rattle.ticks.proofs.Renaming.{Renamed, finish-renamed, end-renamed, busy-renamed, idle-renamed}
+
+abbrev pub movedRun : List ℕ → Run → Run
+movedRun ps R = record { finishes = taken ps (R .finishes); end = R .end; busy = R .busy; idle = R .idle }
 
 module _
     (ps : List ℕ)
@@ -73,8 +75,11 @@ module _
   orderL : Order (L .before)
   orderL = sooner-order (λ i. getD ds i 0) (job s) (subtask s)
 
-  pub run-finishes : run s′ (taken ps ds) (taken ps asks) .finishes ≡ taken ps (run s ds asks .finishes)
-  run-finishes =
+  total : Total (L .before) (L .on)
+  total = sooner-total (λ i. getD ds i 0) s pairs
+
+  finishes-moved : run s′ (taken ps ds) (taken ps asks) .finishes ≡ taken ps (run s ds asks .finishes)
+  finishes-moved =
       let a = run s′ (taken ps ds) (taken ps asks) .finishes in
       let b = run s ds asks .finishes in
       let l = run-length s′ (taken ps ds) (taken ps asks) in
@@ -82,18 +87,19 @@ module _
       (λ i h.
       let k : i < size s′ = omega (arith, l) in
       finish-at s′ (taken ps ds) (taken ps asks) i k
-      ∙ finish-renamed M L π moved-core N K orderM orderL (sooner-total (λ i. getD ds i 0) s pairs) i (in-places (size s′) i k)
+      ∙ finish-renamed M L π moved-core N K orderM orderL total i (in-places (size s′) i k)
       ∙ sym (finish-at s ds asks (π i) (alike-inside (rearranged-alike ps s r) i k))
       ∙ sym (taken-at ps (size s) r b i (omega (arith, rearranged-size ps s r))))
 
-  pub run-end : run s′ (taken ps ds) (taken ps asks) .end ≡ run s ds asks .end
+  pub run-moved : run s′ (taken ps ds) (taken ps asks) ≡ movedRun ps (run s ds asks)
   unfolding runOf
-  run-end = end-renamed M L π moved-core N K orderM orderL (sooner-total (λ i. getD ds i 0) s pairs)
-
-  pub run-busy-ticks : run s′ (taken ps ds) (taken ps asks) .busy ≡ run s ds asks .busy
-  unfolding runOf
-  run-busy-ticks = busy-renamed M L π moved-core N K orderM orderL (sooner-total (λ i. getD ds i 0) s pairs)
-
-  pub run-idle-ticks : run s′ (taken ps ds) (taken ps asks) .idle ≡ run s ds asks .idle
-  unfolding runOf
-  run-idle-ticks = idle-renamed M L π moved-core N K orderM orderL (sooner-total (λ i. getD ds i 0) s pairs)
+  run-moved =
+      let R = run s′ (taken ps ds) (taken ps asks) in
+      let whole : R ≡ record { finishes = R .finishes; end = R .end; busy = R .busy; idle = R .idle } = refl in
+      whole
+      ∙ rw (
+        finishes-moved,
+        busy-renamed M L π moved-core N K orderM orderL total,
+        idle-renamed M L π moved-core N K orderM orderL total,
+        end-renamed M L π moved-core N K orderM orderL total,
+      )
