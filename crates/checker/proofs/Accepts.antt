@@ -7,7 +7,7 @@
 use Prim.Native.Nat.{ℕ, _+_, _≤_, _<_}
 use mathlib.Core.Bool.{Bool, true, false, _&&_}
 use mathlib.Core.List.{List}
-use mathlib.Core.Logic.{_⊎_, _↔_, inl, inr}
+use mathlib.Core.Logic.{_⊎_, _↔_}
 use mathlib.Core.Path.{_≡_}
 use native.Mathlib.Omega.{arith}
 use borrow.Author.Tests.{le-leb}

@@ -10,7 +10,7 @@ use lib.Dec.{eqb}
 use lib.ListN.{length, getD, length-map}
 use lib.Seq.{ext-getD}
 use Rattle.lists.specs.Places.{places, weight, without, Nodup, Rearranges, taken}
-use Rattle.lists.proofs.Members.{in-cons, in-at, in-places, places-in, in-without, from-length, nodup-from}
+use Rattle.lists.proofs.Members.{in-at, in-places, places-in, in-without, from-length, nodup-from}
 use Rattle.lists.proofs.Sums.{weight-nil, weight-cons, weight-out, weight-length}
 use Rattle.lists.proofs.Mapped.{at-map, places-at}
 use Rattle.lists.proofs.Rearranged.{Same}

@@ -19,7 +19,7 @@ use Rattle.lists.proofs.Choice.{chosen-in}
 use Rattle.subjobs.specs.Sets.{Subjobs, deadline, withheld, byBound}
 use Rattle.subjobs.specs.Terms.{terms, lower, bound}
 use Rattle.subjobs.proofs.Differences.{sub-same}
-use Rattle.rules.specs.Method.{placed, best, base, steps}
+use Rattle.rules.specs.Method.{placed, steps}
 use Rattle.rules.proofs.AllPlaces.{every-base}
 use Rattle.rules.proofs.Rules.{bestOf, baseOf}
 use Rattle.olda.specs.Parts.{at, limits, raise, lowerBy, raised, Raised, Raising}

@@ -17,13 +17,13 @@ use Rattle.subjobs.specs.declared.Reason.the-variants.{Late}
 use Rattle.subjobs.specs.declared.Judgement.{Judgement}
 use Rattle.subjobs.specs.declared.Judgement.the-variants as judged
 use Rattle.subjobs.specs.Reasons.{placeOf}
-use Rattle.subjobs.specs.Sets.{Subjobs, size, execution}
+use Rattle.subjobs.specs.Sets.{Subjobs, size}
 use Rattle.subjobs.specs.Terms.{terms, bound, bySlack}
 use Rattle.subjobs.specs.Judging.{judgement, ifPassed}
 use Rattle.subjobs.proofs.Fit.{Fit, fit}
 use Rattle.subjobs.proofs.Reported.{judged-within}
 use Rattle.rules.specs.Method.{Outcome, placed, stuck, method}
-use Rattle.rules.proofs.Rules.{Ones, refused-in}
+use Rattle.rules.proofs.Rules.{refused-in}
 use Rattle.rules.proofs.Obeys.{method-placed, method-stuck}
 use Rattle.olda.specs.declared.Answer.the-variants.{Refused}
 use Rattle.olda.specs.Answers.{report, outcome, answer, written, results}

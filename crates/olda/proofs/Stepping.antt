@@ -13,7 +13,7 @@ use lib.ListN.{length, take, drop, set, length-set, length-take, length-drop}
 use lib.Seq.{length-take-le, getD-take, getD-drop, take-set-lt}
 use mir.Syntax.{w32, w64}
 use mir.Val.{Fits}
-use Rattle.lists.specs.Places.{Every, without}
+use Rattle.lists.specs.Places.{without}
 use Rattle.lists.specs.Order.{reversed, choose}
 use Rattle.lists.proofs.Mapped.{part-within}
 use Rattle.lists.proofs.Members.{every-at, every-in, in-every, every-more, every-drop, in-at, without-in, nodup-filter}

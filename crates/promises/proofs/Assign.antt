@@ -1,33 +1,31 @@
 -- What is promised of `assign` holds: its answers are those of RULES, by the laws of the rules and of refusals 1 to 4.
-use Prim.Native.Nat.{ℕ, _+_, _<_}
-use mathlib.Core.Bool.{Bool, true, false}
-use mathlib.Core.List.{List, [], _∷_, List·Memᴰ}
-use mathlib.Core.Logic.{_≢_, inl, inr}
-use mathlib.Core.Option.{none, some}
+use Prim.Native.Nat.{ℕ, _+_}
+use mathlib.Core.Bool.{true}
+use mathlib.Core.List.{List, [], _∷_}
+use mathlib.Core.Logic.{inl, inr}
+use mathlib.Core.Option.{some}
 use mathlib.Core.Path.{_≡_, refl, sym, ap, _∙_}
 use native.Mathlib.Omega.{arith}
-use lib.Dec.{ltb, eqb}
+use lib.Dec.{ltb}
 use lib.IntN.{ℤ, pos}
-use lib.ListN.{length, getD}
+use lib.ListN.{length}
 use lib.Signed.{ltZ}
 use Rattle.lists.specs.Places.{places, from}
 use Rattle.lists.specs.Order.{choose}
 use Rattle.lists.proofs.Cases.{split, test, clash, tests}
 use Rattle.lists.proofs.Members.{in-nil, in-places, places-in, places-nil}
 use Rattle.lists.proofs.Choice.{choose-cases, chosen-in, chosen-earliest}
-use Rattle.subjobs.specs.declared.Judgement.{Judgement}
 use Rattle.subjobs.specs.declared.Judgement.the-variants as judged
 use Rattle.subjobs.specs.declared.Reason.{Reason}
 use Rattle.subjobs.specs.declared.Reason.the-variants.{Late}
-use Rattle.subjobs.specs.Reasons as reasons
 use Rattle.subjobs.specs.Sets.{Subjobs, size}
 use Rattle.subjobs.specs.Terms.{terms, bound, slack, bySlack, lower}
 use Rattle.subjobs.specs.Judging.{judgement}
 use Rattle.subjobs.specs.Faults.{Fit}
-use Rattle.subjobs.proofs.Fit.{fit, fit-passes}
+use Rattle.subjobs.proofs.Fit.{fit-passes}
 use Rattle.subjobs.proofs.Bounds.{bound-order, bound-less, bound-met, slack-less, lower-order, lower-total, lower-says}
 use Rattle.rules.specs.Method.{Outcome, placed, stuck, method}
-use Rattle.rules.specs.Rules.{over, Accepted, RefusedAt}
+use Rattle.rules.specs.Rules.{over, Accepted}
 use Rattle.rules.proofs.Tails.{attained, base-threshold}
 use Rattle.rules.proofs.ReleaseOrder.{inorder-arranged, nodup-arranged, arranged-in, in-arranged}
 use Rattle.rules.proofs.Rules.{tail-base, base-tail, turn-falls}
@@ -36,7 +34,7 @@ use Rattle.rules.proofs.Accepted.{accepted-six, accepted-seven, accepted-apart}
 use Rattle.rules.proofs.Slack.{chosen-slack, least-slack-one}
 use Rattle.olda.specs.declared.Answer.the-variants.{Placed, Nothing, Refused}
 use Rattle.olda.specs.Answers.{report, answer, results, values}
-use Rattle.promises.specs.Words.{accepted, Faults, Assigned, at}
+use Rattle.promises.specs.Words.{accepted, Assigned, at}
 use Rattle.promises.specs.Assign as says
 use Rattle.promises.specs.Assign.{Reported, resultsFit, AssignSays, AssignAnswers, RulesAllowOne, ReleaseOrderIsTheSet, TailIsTheBase, TailIsOneRelease, CompletionsFall, DeadlinesDiffer, DeadlinesMeetSixAndSeven, SumsAreSigned, TiesByPair}
 use Rattle.promises.proofs.Faulted.{faulted, judged-cases, refused-number}

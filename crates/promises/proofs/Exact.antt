@@ -26,7 +26,7 @@ use Rattle.rules.proofs.Accepted.{accepted-falls}
 use Rattle.lists.proofs.Rearranged.{same-sym}
 use Rattle.ticks.specs.Core.{served}
 use Rattle.ticks.specs.Runs.{due, servedBefore, load, finish, run}
-use Rattle.ticks.proofs.Service.{Counters, counters, served-is-active, served-most}
+use Rattle.ticks.proofs.Service.{counters, served-is-active, served-most}
 use Rattle.ticks.proofs.Finishes.{finish-by}
 use Rattle.ticks.proofs.Ticks.{run-length, finish-at}
 use Rattle.ticks.proofs.Sooner.{sooner-order, sooner-by, sooner-total}

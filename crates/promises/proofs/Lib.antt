@@ -11,3 +11,5 @@ pub mod Door
 pub mod Outcomes
 pub mod Example
 pub mod Reordering
+pub mod ReorderingRuns
+pub mod ReorderingDoor

@@ -1,10 +1,9 @@
 -- What is promised of the table program's text holds: reading by the law of `table`, the rest by what is promised of
 -- `assign`.
-use Prim.Native.Nat.{ℕ, _+_, _≤_}
-use mathlib.Core.Bool.{Bool, true}
-use mathlib.Core.List.{List, [], _∷_, map}
+use Prim.Native.Nat.{ℕ, _≤_}
+use mathlib.Core.Bool.{true}
+use mathlib.Core.List.{List, map}
 use mathlib.Core.Path.{_≡_, refl, sym, ap, _∙_}
-use mathlib.Core.Logic.{_↔_}
 use native.Mathlib.Omega.{arith}
 use borrow.Author.Tests.{eq-eqb}
 use lib.Dec.{eqb}
@@ -21,18 +20,16 @@ use Rattle.subjobs.specs.Faults as faults
 use Rattle.subjobs.specs.Faults.{OneLength, Fit, Faulty}
 use Rattle.subjobs.proofs.Fit.{fit-passes, judged, judged-exactly}
 use Rattle.rules.specs.Method.{Outcome, placed, stuck, method}
-use Rattle.rules.specs.Rules.{Accepted}
 use Rattle.rules.proofs.Obeys.{method-placed, method-stuck}
 use Rattle.olda.specs.declared.Answer.{Answer}
 use Rattle.olda.specs.declared.Answer.the-variants.{Placed, Nothing, Refused}
 use Rattle.olda.specs.Answers as olda
 use Rattle.table.specs.Format as format
-use Rattle.table.specs.Format.{Rows, Parsed, records, refused, Begins, Reads}
+use Rattle.table.specs.Format.{Rows, Parsed, records, refused, Reads}
 use Rattle.table.specs.Reading.{read, setOf}
 use Rattle.table.specs.Writing.{printedLine, refusal}
 use Rattle.table.specs.Answers as table
 use Rattle.table.proofs.Exactly.{read-exactly}
-use Rattle.table.proofs.Outcomes.{Sound}
 use Rattle.table.proofs.Longest.{answer-length}
 use Rattle.table.proofs.OneLine.{accepted-lines}
 use Rattle.table.specs.Answers.{verdictOf, tabled, answer}

@@ -11,8 +11,10 @@
 --   SimulateMoves ps fs′ v l u v′ l′ u′ == the same of the simulator, with the totals u and u′ after it
 --   SimulateReorders      == it does
 --   CheckReorders         == the checker answers with the same number
+--   DoorMoves n ps out′ v l v′ l′ == the same of charoktan_assign on n records, in the numbers that it returns
+--   DoorReorders          == it does, if the engine hands over its records in another order
 --   TurnedRound           == small sets and the same turned round
-use Prim.Native.Nat.{ℕ, _<_, _≤_}
+use Prim.Native.Nat.{ℕ, _+_, _*_, _<_, _≤_}
 use mathlib.Core.List.{List, [], _∷_}
 use mathlib.Core.Path.{_≡_}
 use lib.IntN.{ℤ, pos}
@@ -24,10 +26,14 @@ use Rattle.olda.specs.Answers as olda
 use Rattle.edf.specs.declared.Totals.{Totals}
 use Rattle.edf.specs.Answers as edf
 use Rattle.checker.specs.Answers as checker
+use Rattle.charoktan.specs.Records.{count, records, encoded}
+use Rattle.charoktan.specs.Answers.{assigned, assignedBytes}
 use Rattle.promises.specs.Words.{Number, refusal, at}
 use Rattle.promises.specs.Assign.{Reported, resultsFit}
 use Rattle.promises.specs.Check.{proposedFit}
-use Rattle.promises.specs.Cases.{Row, assigned, Holds, sub, setOf, leastSlack, p6}
+use Rattle.promises.specs.Door.{Whole}
+use Rattle.promises.specs.Cases as cases
+use Rattle.promises.specs.Cases.{Row, Holds, sub, setOf, leastSlack, p6}
 
 pub data AssignMoves (s : Subjobs) (ps out′ : List ℕ) : List ℤ → List ℕ → List ℤ → List ℕ → Type 0 where
   -- refused by 2, 3 or 4: refused by the same number
@@ -94,6 +100,26 @@ CheckReorders =
     → Number n (checker.values (checker.answer s ds))
     → Number n (checker.values (checker.answer (rearranged ps s) (taken ps ds)))
 
+pub data DoorMoves (n : ℕ) (ps out′ : List ℕ) : ℕ → List ℕ → ℕ → List ℕ → Type 0 where
+  -- refused by 2, 3 or 4: refused by the same number
+  faulty :
+      {k : ℕ} {l : List ℕ} (p p′ : ℕ) → 2 ≤ k → k ≤ 4 → DoorMoves n ps out′ (k + 65_536 * p) l (k + 65_536 * p′) out′
+  -- refused by 5: at the place where that record stands now
+  late :
+      {p p′ : ℕ} {l : List ℕ} → p′ < n → at ps p′ ≡ p → DoorMoves n ps out′ (5 + 65_536 * p) l (5 + 65_536 * p′) out′
+  -- accepted: each record keeps its deadline
+  placed : (ds : List ℕ) → DoorMoves n ps out′ 0 (encoded ds) 0 (encoded (taken ps ds))
+
+-- The bytes of bs′ are records too, those of bs in the order of ps.
+abbrev pub DoorReorders : Type 0
+DoorReorders =
+    (bs bs′ ps out out′ : List ℕ)
+    → Whole bs out
+    → Whole bs′ out′
+    → records bs′ ≡ rearranged ps (records bs)
+    → Rearranges ps (count bs)
+    → DoorMoves (count bs) ps out′ (assigned bs (length out)) (assignedBytes bs out) (assigned bs′ (length out′)) (assignedBytes bs′ out′)
+
 -- two sub-jobs with slack 2
 abbrev pub alike : Subjobs
 alike = setOf (sub 0 1 3 ∷ sub 1 1 4 ∷ [])
@@ -105,12 +131,12 @@ oneJob = subjobs (5 ∷ 5 ∷ []) (2 ∷ 1 ∷ []) (0 ∷ 0 ∷ []) (2 ∷ 3 ∷
 -- P6 and these, each with the same turned round. Of two equal least slacks the first place is reported both times.
 abbrev pub turned : List Row
 turned =
-    assigned p6 (leastSlack 4 0) (5 ∷ 3 ∷ [])
-    ∷ assigned (rearranged (1 ∷ 0 ∷ []) p6) (leastSlack 4 1) (3 ∷ 5 ∷ [])
-    ∷ assigned oneJob (leastSlack 4 0) (5 ∷ 3 ∷ [])
-    ∷ assigned (rearranged (1 ∷ 0 ∷ []) oneJob) (leastSlack 4 1) (3 ∷ 5 ∷ [])
-    ∷ assigned alike (leastSlack 2 0) (1 ∷ 2 ∷ [])
-    ∷ assigned (rearranged (1 ∷ 0 ∷ []) alike) (leastSlack 2 0) (2 ∷ 1 ∷ [])
+    cases.assigned p6 (leastSlack 4 0) (5 ∷ 3 ∷ [])
+    ∷ cases.assigned (rearranged (1 ∷ 0 ∷ []) p6) (leastSlack 4 1) (3 ∷ 5 ∷ [])
+    ∷ cases.assigned oneJob (leastSlack 4 0) (5 ∷ 3 ∷ [])
+    ∷ cases.assigned (rearranged (1 ∷ 0 ∷ []) oneJob) (leastSlack 4 1) (3 ∷ 5 ∷ [])
+    ∷ cases.assigned alike (leastSlack 2 0) (1 ∷ 2 ∷ [])
+    ∷ cases.assigned (rearranged (1 ∷ 0 ∷ []) alike) (leastSlack 2 0) (2 ∷ 1 ∷ [])
     ∷ []
 
 abbrev pub TurnedRound : Type 0

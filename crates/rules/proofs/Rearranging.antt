@@ -12,10 +12,10 @@ use Rattle.lists.proofs.Renamed.{moved-in}
 use Rattle.lists.proofs.Taken.{standing, taken-length, taken-at}
 use Rattle.subjobs.specs.Sets.{Subjobs, size, rearranged}
 use Rattle.subjobs.specs.Terms.{terms}
-use Rattle.subjobs.specs.Faults.{OneLength, Fit}
+use Rattle.subjobs.specs.Faults.{Fit}
 use Rattle.subjobs.proofs.Rearranging.{Alike, alike-back, rearranged-size, rearranged-alike, rearranged-fit}
 use Rattle.rules.specs.Method.{placed, stuck, method}
-use Rattle.rules.proofs.Renaming.{Renamed, renamed-back, renamed-accepts, renamed-refuses}
+use Rattle.rules.proofs.Renaming.{Renamed, renamed-accepts, renamed-refuses}
 use Rattle.rules.proofs.Obeys.{method-placed, method-stuck}
 
 pub alike-renamed :

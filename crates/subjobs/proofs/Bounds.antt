@@ -1,6 +1,9 @@
--- The bridge between sums of naturals and signed numbers: a difference of naturals is compared by cross sums.
+-- Upper bounds and slacks. The bridge between sums of naturals and signed numbers: a difference of naturals is compared by
+-- cross sums. And the order of the base sub-job.
 use Prim.Native.Nat.{ℕ, suc, _+_, _-_}
-use mathlib.Core.Bool.{Bool, true, not}
+use mathlib.Core.Bool.{Bool, true, false, not}
+use mathlib.Core.List.{List, [], _∷_}
+use mathlib.Core.Logic.{_↔_, inl, inr}
 use mathlib.Core.Path.{_≡_, refl, sym, ap, _∙_}
 use native.Mathlib.Omega.{arith}
 use borrow.Author.Tests.{ltb-true, leb-true, leb-false, lt-ltb, le-ltb}
@@ -10,10 +13,9 @@ use lib.Signed.{leZ, ltZ}
 use Rattle.lists.proofs.Cases.{split, test, tests, tested, same-ltb}
 use Rattle.subjobs.proofs.Differences.{sub-same, sub-pos, sub-less}
 use Rattle.subjobs.proofs.Pairs.{pair-order, pair-total}
-use Rattle.subjobs.specs.Sets.{Subjobs, size, job, subtask, deadline, withheld, byBound, byPair}
+use Rattle.subjobs.specs.Sets.{Subjobs, subjobs, size, job, subtask, deadline, withheld, byBound, byPair}
 use Rattle.subjobs.specs.Terms.{Terms, bound, slack, bySlack, lower, terms, Behind}
 use Rattle.subjobs.specs.Faults.{NoneTwice}
-use mathlib.Core.Logic.{_↔_, inl, inr}
 use Rattle.lists.specs.Places.{places}
 use Rattle.lists.specs.Order.{by}
 use Rattle.lists.proofs.Choice.{Order, Total, lex-order, lex-total, yes-lex, tie-lex, lex-yes}
@@ -73,6 +75,18 @@ bound-order dl z =
       trans = λ i j k a b. omega tested;
       parts = λ i j k h. test (byBound dl z i j) (λ q. inl q) (λ q. inr (omega tested));
     }
+
+-- Two sub-jobs with equal bounds, on which a wrong tie rule shows, computed: of jobs 5 and 2, where place and subtask of the
+-- second are greater; and of one job, where the place is.
+abbrev two : (jobs subtasks : List ℕ) → Subjobs
+two js ks = subjobs js ks (0 ∷ 0 ∷ []) (2 ∷ 3 ∷ []) (9 ∷ 9 ∷ []) (0 ∷ 0 ∷ [])
+
+pub lower-edges :
+    (lower (two (5 ∷ 2 ∷ []) (1 ∷ 2 ∷ [])) 1 0 ≡ true)
+    × (lower (two (5 ∷ 2 ∷ []) (1 ∷ 2 ∷ [])) 0 1 ≡ false)
+    × (lower (two (5 ∷ 5 ∷ []) (2 ∷ 1 ∷ [])) 1 0 ≡ true)
+    × (lower (two (5 ∷ 5 ∷ []) (2 ∷ 1 ∷ [])) 0 1 ≡ false)
+lower-edges = (refl, refl, refl, refl)
 
 -- The order of the base sub-job: by upper bounds, then by pairs. Where no pair stands twice it parts any two.
 module _ (s : Subjobs) where

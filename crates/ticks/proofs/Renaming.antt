@@ -2,10 +2,9 @@
 -- the list, each is served the same at every moment and finishes at the same, and the two runs have the same end and ticks.
 --
 --   Renamed M L π == L is M with each place i called π i
-use Prim.Native.Nat.{ℕ, _+_}
-use mathlib.Core.List.{List}
+use Prim.Native.Nat.{ℕ}
 use mathlib.Core.Logic.{inl}
-use mathlib.Core.Path.{_≡_, ap, _∙_}
+use mathlib.Core.Path.{_≡_, ap}
 use native.Mathlib.Omega.{arith}
 use lib.Dec.{ltb}
 use Rattle.lists.specs.Places.{filter}
