@@ -11,7 +11,6 @@ use lib.ListN.{length}
 use Rattle.lists.proofs.Cases.{both}
 use Rattle.subjobs.specs.Sets.{Subjobs, size}
 use Rattle.subjobs.specs.Faults.{Fit}
-use Rattle.rules.specs.Method.{placed}
 use Rattle.rules.proofs.Obeys.{method-placed}
 use Rattle.ticks.specs.Runs.{run}
 use Rattle.ticks.proofs.Ticks.{run-length}

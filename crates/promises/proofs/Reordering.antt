@@ -7,9 +7,7 @@ use mathlib.Core.Path.{_≡_, refl, _∙_, subst}
 use native.Mathlib.Omega.{arith}
 use lib.IntN.{ℤ}
 use lib.ListN.{length, getD}
-use Rattle.lists.specs.Places.{from, places, filter, weight, Rearranges, taken}
-use Rattle.lists.specs.Order.{ahead, choose}
-use Rattle.lists.specs.Search.{someFrom}
+use Rattle.lists.specs.Places.{places, Rearranges, taken}
 use Rattle.lists.proofs.Cases.{split}
 use Rattle.lists.proofs.Members.{in-places, places-in, places-nil}
 use Rattle.lists.proofs.Choice.{choose-cases}
@@ -20,24 +18,23 @@ use Rattle.subjobs.specs.Reasons as reasons
 use Rattle.subjobs.specs.Reasons.{numberOf, fieldNumber}
 use Rattle.subjobs.specs.Sets.{Subjobs, size, rearranged}
 use Rattle.subjobs.specs.Terms.{terms, bound, slack, bySlack}
-use Rattle.subjobs.specs.Judging.{refusalFrom, judgement}
+use Rattle.subjobs.specs.Judging.{judgement}
 use Rattle.subjobs.specs.Faults as subjobs
 use Rattle.subjobs.specs.Faults.{OneLength, Fit, Faulty}
 use Rattle.subjobs.proofs.Exactly.{same-refused}
 use Rattle.subjobs.proofs.Fit as fit
 use Rattle.subjobs.proofs.Rearranging.{Alike, rearranged-size, rearranged-alike, rearranged-lengths, rearranged-fit, rearranged-judged, alike-back, alike-inside}
-use Rattle.rules.specs.Method.{Outcome, placed, stuck, insert, arranged, best, base, steps, method}
+use Rattle.rules.specs.Method.{Outcome, placed, stuck, method}
 use Rattle.rules.proofs.Obeys.{method-placed}
 use Rattle.rules.proofs.Slack.{least-slack-one}
 use Rattle.rules.proofs.Renaming.{renamed-least-slack}
 use Rattle.rules.proofs.Rearranging.{alike-renamed, taken-back, method-moved, method-stays}
-use Rattle.olda.specs.Answers.{report, answer, results, values}
+use Rattle.olda.specs.Answers.{answer, results, values}
 use Rattle.olda.proofs.Results.{fit-inside}
-use Rattle.checker.specs.declared.Answer.the-variants.{Refused}
 use Rattle.promises.specs.Words.{refusal, at}
 use Rattle.promises.specs.Assign.{Reported, resultsFit}
 use Rattle.promises.specs.Reordering as says
-use Rattle.promises.specs.Reordering.{AssignMoves, AssignReorders, TurnedRound}
+use Rattle.promises.specs.Reordering.{AssignMoves, AssignReorders}
 use Rattle.promises.proofs.Assign.{nil, report-none, report-some, chosen-reported, refused-answer, placed-answer, stuck-answer}
 
 -- What is refused by 1 to 4 has the values of such a refusal, and not number 1 where the lists are of one length.
@@ -145,8 +142,3 @@ assign-reorders s ps out out′ l e r =
         → Moves s ps r out out′ e
     by-method f (stuck p m) q = late-moves s ps r out out′ e f p m q
     by-method f (placed ds) q = placed-moves s ps r out out′ e f ds q
-
--- Small sets and the same turned round compute.
-pub turned-round : TurnedRound
-unfolding from filter weight ahead choose someFrom refusalFrom judgement insert arranged best base steps method report answer results
-turned-round = ((refl, refl), ((refl, refl), ((refl, refl), ((refl, refl), ((refl, refl), ((refl, refl), tt))))))

@@ -14,7 +14,6 @@ use Rattle.lists.proofs.Cases.{split, test, both}
 use Rattle.lists.proofs.Members.{in-places, places-in}
 use Rattle.lists.proofs.Taken.{standing, taken-length}
 use Rattle.subjobs.specs.declared.Judgement.{Judgement}
-use Rattle.subjobs.specs.declared.Judgement.the-variants as judged
 use Rattle.subjobs.specs.declared.Reason.{Reason}
 use Rattle.subjobs.specs.Reasons.{numberOf}
 use Rattle.subjobs.specs.Sets.{Subjobs, size, rearranged}
@@ -25,7 +24,6 @@ use Rattle.subjobs.proofs.Fit as fit
 use Rattle.subjobs.proofs.Rearranging.{rearranged-size, rearranged-alike, rearranged-fit, rearranged-judged, alike-back, alike-inside}
 use Rattle.rules.proofs.Renaming.{renamed-six}
 use Rattle.rules.proofs.Rearranging.{alike-renamed, taken-there, taken-back}
-use Rattle.olda.specs.Answers.{answer, values}
 use Rattle.edf.specs.declared.Totals.{Totals}
 use Rattle.edf.specs.Answers as edf
 use Rattle.edf.specs.Answers.{furtherLists, added, above}

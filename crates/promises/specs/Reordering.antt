@@ -1,5 +1,5 @@
--- The order of a set's list does not matter. A call and the same call with all its lists rearranged alike have outcomes that
--- differ in places alone, and these are where the sub-jobs stand now.
+-- The order of a set's list does not matter: of a call, and of the same call with all its lists rearranged alike, the same is
+-- said of each sub-job.
 --
 --   Rearranges ps n       == each of the n places stands in ps, once, and no other (lists/specs/Places)
 --   taken ps xs           == the list xs in the order of ps: place k has what xs has at the k-th place of ps
