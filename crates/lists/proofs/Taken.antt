@@ -67,13 +67,13 @@ module _ (ps : List ℕ) (n : ℕ) (r : Rearranges ps n) where
       at-map (λ j. getD ps j 0) (places (length ps)) i (omega (arith, l, from-length 0 (length ps)))
       ∙ ap (λ (j : ℕ). getD ps j 0) (places-at (length ps) i (omega (arith, l))))
 
+  pub rearranges-places : map (λ i. getD ps i 0) (places n) ≡ ps
+  rearranges-places = ap (λ (m : ℕ). map (λ i. getD ps i 0) (places m)) (sym rearranges-length) ∙ all-at
+
   -- It is a renaming of the places, and `standing` leads back.
   pub rearranges-moved : Moved (λ i. getD ps i 0) (places n) (places n)
   rearranges-moved f =
-      ap (λ (m : ℕ). weight (λ i. f (getD ps i 0)) (places m)) (sym rearranges-length)
-      ∙ moved-map (λ i. getD ps i 0) (places (length ps)) f
-      ∙ ap (weight f) all-at
-      ∙ rearranges-same f
+      moved-map (λ i. getD ps i 0) (places n) f ∙ ap (weight f) rearranges-places ∙ rearranges-same f
 
   pub rearranges-back : (i : ℕ) → List·Memᴰ i (places n) → standing ps (getD ps i 0) ≡ i
   rearranges-back i m = standing-at ps i (r .0) (omega (arith, places-in n i m, rearranges-length))

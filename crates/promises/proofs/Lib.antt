@@ -13,3 +13,4 @@ pub mod Example
 pub mod Reordering
 pub mod ReorderingRuns
 pub mod ReorderingDoor
+pub mod ReorderingText

@@ -23,7 +23,7 @@ use Rattle.subjobs.specs.Faults as subjobs
 use Rattle.subjobs.specs.Faults.{OneLength, Fit, Faulty}
 use Rattle.subjobs.proofs.Exactly.{same-refused}
 use Rattle.subjobs.proofs.Fit as fit
-use Rattle.subjobs.proofs.Rearranging.{Alike, rearranged-size, rearranged-alike, rearranged-lengths, rearranged-fit, rearranged-judged, alike-back, alike-inside}
+use Rattle.subjobs.proofs.Rearranging.{Alike, rearranged-size, rearranged-alike, rearranged-lengths, rearranged-fit, rearranged-judged, rearranged-stands, alike-back}
 use Rattle.rules.specs.Method.{Outcome, placed, stuck, method}
 use Rattle.rules.proofs.Obeys.{method-placed}
 use Rattle.rules.proofs.Slack.{least-slack-one}
@@ -91,8 +91,8 @@ module _ (s : Subjobs) (ps : List ℕ) (r : Rearranges ps (size s)) where
           let a = stuck-answer s out f p m q in
           let b = stuck-answer s′ out′ fit-moved (standing ps p) m (method-stays ps s r f p m q) in
           let same : bound (terms s′) (standing ps p) ≡ bound (terms s) p = rw (back .deadline p k, back .critical p k) in
-          rw (a .0, a .1, b .0, b .1, same)
-          (says.late {p′ = standing ps p} (omega (arith, alike-inside back p h, rearranged-size ps s r)) (back .back p k))
+          let now = rearranged-stands ps s r p h in
+          rw (a .0, a .1, b .0, b .1, same) (says.late {p′ = standing ps p} (now .0) (now .1))
 
       placed-moves : (ds : List ℕ) → method s ≡ placed ds → Moves
       placed-moves ds q =

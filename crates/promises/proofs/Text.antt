@@ -51,7 +51,7 @@ unfolding refusal
 line-of r = refl
 
 -- The records of a table are lists of one length.
-rows-length : (rows : Rows) → OneLength (setOf rows) true
+pub rows-length : (rows : Rows) → OneLength (setOf rows) true
 rows-length rows =
     record {
       subtasks = same 1;
@@ -65,7 +65,7 @@ rows-length rows =
     same : (k : ℕ) → length (map (λ (row : List ℕ). getD row k 0) rows) ≡ length (map (λ (row : List ℕ). getD row 0 0) rows)
     same k = length-map rows (λ (row : List ℕ). getD row k 0) ∙ sym (length-map rows (λ (row : List ℕ). getD row 0 0))
 
-rows-size : (rows : Rows) → size (setOf rows) ≡ length rows
+pub rows-size : (rows : Rows) → size (setOf rows) ≡ length rows
 rows-size rows = length-map rows (λ (row : List ℕ). getD row 0 0)
 
 -- A set, with a result list of its size.
@@ -104,7 +104,7 @@ module _ (s : Subjobs) where
         let a = placed-answer s room fits ds q in
         tabled-passed (ap (λ (n : ℕ). verdictOf (olda.answer s n)) (sym long) ∙ ap verdictOf (a .0) ∙ no-refusal (olda.report s (at ds)) (report-accepted s ds)) (a .1)
 
-    gives : {ds : List ℕ} → method s ≡ placed ds → Assigned s ds
+    pub gives : {ds : List ℕ} → method s ≡ placed ds → Assigned s ds
     gives {ds} q = let a = placed-answer s room fits ds q in (room, rw (a .0) (report-accepted s ds), a .1)
 
 -- What the output is, by what the text is read as.

@@ -13,12 +13,15 @@
 --   CheckReorders         == the checker answers with the same number
 --   DoorMoves n ps out′ v l v′ l′ == the same of charoktan_assign on n records, in the numbers that it returns
 --   DoorReorders          == it does, if the engine hands over its records in another order
+--   TableMoves s ps o o′  == where the table program's output on a table of the set s is o, that on its records in the order of
+--                            ps may be o′
+--   TableReorders         == it is
 --   TurnedRound           == small sets and the same turned round
 use Prim.Native.Nat.{ℕ, _+_, _*_, _<_, _≤_}
-use mathlib.Core.List.{List, [], _∷_}
+use mathlib.Core.List.{List, [], _∷_, _++_, map}
 use mathlib.Core.Path.{_≡_}
 use lib.IntN.{ℤ, pos}
-use lib.ListN.{length}
+use lib.ListN.{length, getD}
 use Rattle.lists.specs.Places.{Rearranges, taken}
 use Rattle.subjobs.specs.Sets.{Subjobs, subjobs, size, rearranged}
 use Rattle.subjobs.specs.Faults.{OneLength}
@@ -26,14 +29,20 @@ use Rattle.olda.specs.Answers as olda
 use Rattle.edf.specs.declared.Totals.{Totals}
 use Rattle.edf.specs.Answers as edf
 use Rattle.checker.specs.Answers as checker
+use Rattle.table.specs.Format.{Rows}
+use Rattle.table.specs.Reading.{setOf}
+use Rattle.table.specs.Writing.{outHeader}
+use Rattle.table.specs.Answers as table
+use Rattle.table.specs.Answers.{joined}
 use Rattle.charoktan.specs.Records.{count, records, encoded}
 use Rattle.charoktan.specs.Answers.{assigned, assignedBytes}
 use Rattle.promises.specs.Words.{Number, refusal, at}
 use Rattle.promises.specs.Assign.{Reported, resultsFit}
 use Rattle.promises.specs.Check.{proposedFit}
+use Rattle.promises.specs.Text.{refusedLine, printedLine, printed, Tabled}
 use Rattle.promises.specs.Door.{Whole}
 use Rattle.promises.specs.Cases as cases
-use Rattle.promises.specs.Cases.{Row, Holds, sub, setOf, leastSlack, p6}
+use Rattle.promises.specs.Cases.{Row, Holds, sub, leastSlack, p6}
 
 pub data AssignMoves (s : Subjobs) (ps out′ : List ℕ) : List ℤ → List ℕ → List ℤ → List ℕ → Type 0 where
   -- refused by 2, 3 or 4: refused by the same number
@@ -120,9 +129,26 @@ DoorReorders =
     → Rearranges ps (count bs)
     → DoorMoves (count bs) ps out′ (assigned bs (length out)) (assignedBytes bs out) (assigned bs′ (length out′)) (assignedBytes bs′ out′)
 
+pub data TableMoves (s : Subjobs) (ps : List ℕ) : List ℕ → List ℕ → Type 0 where
+  -- refused by 3 or 4: refused by the same number
+  faulty : (n l l′ : ℕ) → 3 ≤ n → n ≤ 4 → TableMoves s ps (refusedLine n l) (refusedLine n l′)
+  -- refused by 5: with the line on which that record stands now
+  late : (p p′ : ℕ) → p′ < size s → at ps p′ ≡ p → TableMoves s ps (refusedLine 5 (p + 2)) (refusedLine 5 (p′ + 2))
+  -- accepted: the same lines in the new order
+  accepted : (ds : List ℕ) → TableMoves s ps (printed s ds) (outHeader ++ joined (printedLine s ds) ps)
+
+-- The text of text′ is a table of the same records, in the order of ps.
+abbrev pub TableReorders : Type 0
+TableReorders =
+    (text text′ : List ℕ) (rows : Rows) (ps : List ℕ)
+    → Tabled text rows
+    → Tabled text′ (map (λ p. getD rows p []) ps)
+    → Rearranges ps (length rows)
+    → TableMoves (setOf rows) ps (table.answer text) (table.answer text′)
+
 -- two sub-jobs with slack 2
 abbrev pub alike : Subjobs
-alike = setOf (sub 0 1 3 ∷ sub 1 1 4 ∷ [])
+alike = cases.setOf (sub 0 1 3 ∷ sub 1 1 4 ∷ [])
 
 -- two sub-jobs of one job with equal bounds
 abbrev pub oneJob : Subjobs

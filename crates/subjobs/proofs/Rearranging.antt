@@ -103,6 +103,12 @@ module _ (ps : List ℕ) (s : Subjobs) (r : Rearranges ps (size s)) where
       field xs i m =
           taken-at ps (size s) r xs i (omega (arith, places-in (size (rearranged ps s)) i m, rearranged-size))
 
+  -- The sub-job of an old place stands at a new one.
+  pub rearranged-stands : (p : ℕ) → p < size s → (standing ps p < size s) × (getD ps (standing ps p) 0 ≡ p)
+  rearranged-stands p h =
+      let back = alike-back rearranged-alike in
+      (omega (arith, alike-inside back p h, rearranged-size), back .back p (in-places (size s) p h))
+
   -- 1: its lists are as long as one another.
   pub rearranged-lengths : {others : Bool} → others ≡ true → OneLength (rearranged ps s) others
   rearranged-lengths o =
