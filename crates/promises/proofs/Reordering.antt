@@ -23,12 +23,12 @@ use Rattle.subjobs.specs.Faults as subjobs
 use Rattle.subjobs.specs.Faults.{OneLength, Fit, Faulty}
 use Rattle.subjobs.proofs.Exactly.{same-refused}
 use Rattle.subjobs.proofs.Fit as fit
-use Rattle.subjobs.proofs.Rearranging.{Alike, rearranged-size, rearranged-alike, rearranged-lengths, rearranged-fit, rearranged-judged, rearranged-stands, alike-back}
+use Rattle.subjobs.proofs.Rearranging.{Alike, rearranged-size, rearranged-alike, rearranged-lengths, rearranged-fit, rearranged-judged, rearranged-stands, alike-back, taken-back}
 use Rattle.rules.specs.Method.{Outcome, placed, stuck, method}
 use Rattle.rules.proofs.Obeys.{method-placed}
 use Rattle.rules.proofs.Slack.{least-slack-one}
 use Rattle.rules.proofs.Renaming.{renamed-least-slack}
-use Rattle.rules.proofs.Rearranging.{alike-renamed, taken-back, method-moved, method-stays}
+use Rattle.rules.proofs.Rearranging.{alike-renamed, method-moved, method-stays}
 use Rattle.olda.specs.Answers.{answer, results, values}
 use Rattle.olda.proofs.Results.{fit-inside}
 use Rattle.promises.specs.Words.{refusal, at}

@@ -21,9 +21,9 @@ use Rattle.subjobs.specs.Judging.{orElse, ifPassed}
 use Rattle.subjobs.specs.Faults.{OneLength, Fit, Faulty}
 use Rattle.subjobs.proofs.Exactly.{SameNumber, pass, refuse, same-or, same-exactly}
 use Rattle.subjobs.proofs.Fit as fit
-use Rattle.subjobs.proofs.Rearranging.{rearranged-size, rearranged-alike, rearranged-fit, rearranged-judged, alike-back, alike-inside}
+use Rattle.subjobs.proofs.Rearranging.{rearranged-size, rearranged-alike, rearranged-fit, rearranged-judged, alike-back, alike-inside, taken-there, taken-back}
 use Rattle.rules.proofs.Renaming.{renamed-six}
-use Rattle.rules.proofs.Rearranging.{alike-renamed, taken-there, taken-back}
+use Rattle.rules.proofs.Rearranging.{alike-renamed}
 use Rattle.edf.specs.declared.Totals.{Totals}
 use Rattle.edf.specs.Answers as edf
 use Rattle.edf.specs.Answers.{furtherLists, added, above}

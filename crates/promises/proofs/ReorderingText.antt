@@ -15,12 +15,12 @@ use Rattle.subjobs.specs.Faults as faults
 use Rattle.subjobs.specs.Faults.{Fit, Faulty}
 use Rattle.subjobs.proofs.Exactly.{same-refused}
 use Rattle.subjobs.proofs.Fit.{judged, judged-exactly}
-use Rattle.subjobs.proofs.Rearranging.{rearranged-size, rearranged-alike, rearranged-stands, rearranged-fit, rearranged-judged}
+use Rattle.subjobs.proofs.Rearranging.{rearranged-size, rearranged-alike, rearranged-stands, rearranged-fit, rearranged-judged, taken-there}
 use Rattle.rules.specs.Rules.{RefusedAt}
 use Rattle.rules.specs.Method.{Outcome, placed, stuck, method}
 use Rattle.rules.proofs.Obeys.{method-stuck}
 use Rattle.rules.proofs.Renaming.{renamed-slack}
-use Rattle.rules.proofs.Rearranging.{alike-renamed, taken-there, method-moved, method-stays}
+use Rattle.rules.proofs.Rearranging.{alike-renamed, method-moved, method-stays}
 use Rattle.ticks.specs.Runs.{Run, run}
 use Rattle.ticks.proofs.Rearranging.{run-moved}
 use Rattle.olda.proofs.Results.{fit-inside}

@@ -2,18 +2,15 @@
 -- gives a rearranged set the rearranged deadlines, or stops at the same sub-job with the same completion.
 use Prim.Native.Nat.{ℕ}
 use mathlib.Core.Bool.{Bool}
-use mathlib.Core.List.{List, List·Memᴰ}
-use mathlib.Core.Path.{_≡_, sym, ap, _∙_}
-use native.Mathlib.Omega.{arith}
+use mathlib.Core.List.{List}
+use mathlib.Core.Path.{_≡_, sym, _∙_}
 use lib.ListN.{getD}
 use Rattle.lists.specs.Places.{places, Rearranges, taken}
-use Rattle.lists.proofs.Members.{places-in}
-use Rattle.lists.proofs.Renamed.{moved-in}
-use Rattle.lists.proofs.Taken.{standing, taken-length, taken-at}
+use Rattle.lists.proofs.Taken.{standing, taken-length}
 use Rattle.subjobs.specs.Sets.{Subjobs, size, rearranged}
 use Rattle.subjobs.specs.Terms.{terms}
 use Rattle.subjobs.specs.Faults.{Fit}
-use Rattle.subjobs.proofs.Rearranging.{Alike, alike-back, rearranged-size, rearranged-alike, rearranged-fit}
+use Rattle.subjobs.proofs.Rearranging.{Alike, alike-back, rearranged-size, rearranged-alike, rearranged-fit, taken-back}
 use Rattle.rules.specs.Method.{placed, stuck, method}
 use Rattle.rules.proofs.Renaming.{Renamed, renamed-accepts, renamed-refuses}
 use Rattle.rules.proofs.Obeys.{method-placed, method-stuck}
@@ -41,34 +38,21 @@ alike-renamed e =
           );
     }
 
-module _ (ps : List ℕ) (s : Subjobs) (r : Rearranges ps (size s)) where
-  -- A list of deadlines taken in the order of ps has for each sub-job what it had, by its new place and by its old one.
-  pub taken-there :
-      (ds : List ℕ) (i : ℕ) → List·Memᴰ i (places (size (rearranged ps s))) → getD (taken ps ds) i 0 ≡ getD ds (getD ps i 0) 0
-  taken-there ds i m =
-      taken-at ps (size s) r ds i (omega (arith, places-in (size (rearranged ps s)) i m, rearranged-size ps s r))
+module _ (ps : List ℕ) (s : Subjobs) (r : Rearranges ps (size s)) {others : Bool} (f : Fit s others) where
+  fit′ : Fit (rearranged ps s) others
+  fit′ = rearranged-fit ps s r others (f .lengths) f
 
-  pub taken-back : (ds : List ℕ) (j : ℕ) → List·Memᴰ j (places (size s)) → getD ds j 0 ≡ getD (taken ps ds) (standing ps j) 0
-  taken-back ds j m =
-      let a = alike-back (rearranged-alike ps s r) in
-      ap (λ (i : ℕ). getD ds i 0) (sym (a .back j m))
-      ∙ sym (taken-there ds (standing ps j) (moved-in (standing ps) (places (size s)) (places (size (rearranged ps s))) (a .moved) m))
+  -- ρ renames the set's places to the new ones.
+  there : Renamed (standing ps) (λ i. getD ps i 0) (terms s) (terms (rearranged ps s)) (places (size s)) (places (size (rearranged ps s)))
+  there = alike-renamed (alike-back (rearranged-alike ps s r))
 
-  module _ {others : Bool} (f : Fit s others) where
-    fit′ : Fit (rearranged ps s) others
-    fit′ = rearranged-fit ps s r others (f .lengths) f
+  pub method-moved : (ds : List ℕ) → method s ≡ placed ds → method (rearranged ps s) ≡ placed (taken ps ds)
+  method-moved ds q =
+      method-placed (rearranged ps s) fit′ (taken ps ds) .1 (
+        taken-length ps (size s) r ds ∙ sym (rearranged-size ps s r),
+        renamed-accepts there (λ i. getD ds i 0) (λ i. getD (taken ps ds) i 0) (taken-back ps s r ds) (method-placed s f ds .0 q .1),
+      )
 
-    -- ρ renames the set's places to the new ones.
-    there : Renamed (standing ps) (λ i. getD ps i 0) (terms s) (terms (rearranged ps s)) (places (size s)) (places (size (rearranged ps s)))
-    there = alike-renamed (alike-back (rearranged-alike ps s r))
-
-    pub method-moved : (ds : List ℕ) → method s ≡ placed ds → method (rearranged ps s) ≡ placed (taken ps ds)
-    method-moved ds q =
-        method-placed (rearranged ps s) fit′ (taken ps ds) .1 (
-          taken-length ps (size s) r ds ∙ sym (rearranged-size ps s r),
-          renamed-accepts there (λ i. getD ds i 0) (λ i. getD (taken ps ds) i 0) (taken-back ds) (method-placed s f ds .0 q .1),
-        )
-
-    pub method-stays : (p m : ℕ) → method s ≡ stuck p m → method (rearranged ps s) ≡ stuck (standing ps p) m
-    method-stays p m q =
-        method-stuck (rearranged ps s) fit′ (standing ps p) m .1 (renamed-refuses there (method-stuck s f p m .0 q))
+  pub method-stays : (p m : ℕ) → method s ≡ stuck p m → method (rearranged ps s) ≡ stuck (standing ps p) m
+  method-stays p m q =
+      method-stuck (rearranged ps s) fit′ (standing ps p) m .1 (renamed-refuses there (method-stuck s f p m .0 q))

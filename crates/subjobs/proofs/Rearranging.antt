@@ -1,4 +1,5 @@
--- A set whose list is rearranged. Its sub-jobs are the same under other places, and refusals 3 and 4 do not ask for these.
+-- A set whose list is rearranged. Its sub-jobs are the same under other places, and refusals 1 to 4 do not ask which: it passes
+-- exactly if the set does, and is refused by the same number.
 --
 --   Alike π ρ s′ s == the sub-job at place i of s′ is the one at place π i of s, and ρ leads back
 use Prim.Native.Nat.{ℕ, _<_}
@@ -82,26 +83,31 @@ module _ (ps : List ℕ) (s : Subjobs) (r : Rearranges ps (size s)) where
   pub rearranged-size : size (rearranged ps s) ≡ size s
   rearranged-size = taken-length ps (size s) r (s .jobs)
 
+  -- A list in the order of ps has for each sub-job what it had, by its new place and by its old one.
+  pub taken-there :
+      (xs : List ℕ) (i : ℕ) → List·Memᴰ i (places (size (rearranged ps s))) → getD (taken ps xs) i 0 ≡ getD xs (getD ps i 0) 0
+  taken-there xs i m =
+      taken-at ps (size s) r xs i (omega (arith, places-in (size (rearranged ps s)) i m, rearranged-size))
+
   pub rearranged-alike : Alike (λ i. getD ps i 0) (standing ps) (rearranged ps s) s
   rearranged-alike =
       record {
         many = rearranged-size;
         moved = rw rearranged-size (rearranges-moved ps (size s) r);
         back = λ i m. rearranges-back ps (size s) r i (rw rearranged-size at m);
-        job = field (s .jobs);
-        subtask = field (s .subtasks);
-        release = field (s .releases);
-        execution = field (s .executions);
-        deadline = field (s .deadlines);
-        critical = field (s .criticals);
+        job = taken-there (s .jobs);
+        subtask = taken-there (s .subtasks);
+        release = taken-there (s .releases);
+        execution = taken-there (s .executions);
+        deadline = taken-there (s .deadlines);
+        critical = taken-there (s .criticals);
       }
-    where
-      field :
-          (xs : List ℕ) (i : ℕ)
-          → List·Memᴰ i (places (size (rearranged ps s)))
-          → getD (taken ps xs) i 0 ≡ getD xs (getD ps i 0) 0
-      field xs i m =
-          taken-at ps (size s) r xs i (omega (arith, places-in (size (rearranged ps s)) i m, rearranged-size))
+
+  pub taken-back : (xs : List ℕ) (j : ℕ) → List·Memᴰ j (places (size s)) → getD xs j 0 ≡ getD (taken ps xs) (standing ps j) 0
+  taken-back xs j m =
+      let a = alike-back rearranged-alike in
+      ap (λ (i : ℕ). getD xs i 0) (sym (a .back j m))
+      ∙ sym (taken-there xs (standing ps j) (moved-in (standing ps) (places (size s)) (places (size (rearranged ps s))) (a .moved) m))
 
   -- The sub-job of an old place stands at a new one.
   pub rearranged-stands : (p : ℕ) → p < size s → (standing ps p < size s) × (getD ps (standing ps p) 0 ≡ p)

@@ -8,15 +8,15 @@ use lib.ListN.{getD}
 use lib.Seq.{ext-getD}
 use Rattle.lists.specs.Places.{places, Rearranges, taken}
 use Rattle.lists.proofs.Choice.{Order, Total}
-use Rattle.lists.proofs.Members.{places-in, in-places}
+use Rattle.lists.proofs.Members.{in-places}
 use Rattle.lists.proofs.Renamed.{moved-in}
-use Rattle.lists.proofs.Taken.{standing, taken-length, taken-at}
+use Rattle.lists.proofs.Taken.{standing, taken-length}
 use Rattle.subjobs.specs.Sets.{Subjobs, size, rearranged, job, subtask}
 use Rattle.subjobs.specs.Faults.{NoneTwice}
-use Rattle.subjobs.proofs.Rearranging.{alike-inside, rearranged-size, rearranged-alike}
+use Rattle.subjobs.proofs.Rearranging.{alike-inside, rearranged-size, taken-there, rearranged-alike}
 use Rattle.ticks.specs.Core.{Load}
 use Rattle.ticks.specs.Runs.{Run, load, runOf, run}
-use Rattle.ticks.proofs.Service.{On, Counters, counters}
+use Rattle.ticks.proofs.Service.{Counters, counters}
 use Rattle.ticks.proofs.Sooner.{sooner-order, sooner-total}
 use Rattle.ticks.proofs.Ticks.{run-length, finish-at}
 use Rattle.ticks.proofs.Renaming.{Renamed, finish-renamed, end-renamed, busy-renamed, idle-renamed}
@@ -46,16 +46,21 @@ module _
   moved-core : Renamed M L π
   moved-core =
       let e = rearranged-alike ps s r in
-      let old : (xs : List ℕ) (i : ℕ) → On M i → getD (taken ps xs) i 0 ≡ getD xs (π i) 0 =
-      λ xs i m. taken-at ps (size s) r xs i (omega (arith, places-in (size s′) i m, rearranged-size ps s r))
-      in
       record {
         stands = record {
           there = λ i m. moved-in π (places (size s′)) (places (size s)) (e .moved) m;
           apart = λ i j p q h. sym (e .back i p) ∙ ap (standing ps) h ∙ e .back j q;
           release = e .release;
-          owed = λ i m. rw (old asks i m, e .execution i m);
-          before = λ i j m k. rw (old ds i m, old ds j k, e .job i m, e .job j k, e .subtask i m, e .subtask j k);
+          owed = λ i m. rw (taken-there ps s r asks i m, e .execution i m);
+          before = λ i j m k.
+              rw (
+                taken-there ps s r ds i m,
+                taken-there ps s r ds j k,
+                e .job i m,
+                e .job j k,
+                e .subtask i m,
+                e .subtask j k,
+              );
         };
         moved = e .moved;
       }
@@ -89,7 +94,7 @@ module _
       finish-at s′ (taken ps ds) (taken ps asks) i k
       ∙ finish-renamed M L π moved-core N K orderM orderL total i (in-places (size s′) i k)
       ∙ sym (finish-at s ds asks (π i) (alike-inside (rearranged-alike ps s r) i k))
-      ∙ sym (taken-at ps (size s) r b i (omega (arith, rearranged-size ps s r))))
+      ∙ sym (taken-there ps s r b i (in-places (size s′) i k)))
 
   pub run-moved : run s′ (taken ps ds) (taken ps asks) ≡ movedRun ps (run s ds asks)
   unfolding runOf
