@@ -111,13 +111,15 @@ Base base_one_pass(const Remaining *rest, size_t count)
     return base;
 }
 
-// The base sub-job: the greatest bound, of several the latest in the list.
-size_t base_subjob(const Remaining *rest, size_t first, size_t count)
+// The base sub-job: the greatest bound, of several the greatest pair. Pairs are left in the set,
+// since few bounds are equal.
+size_t base_subjob(const Set &set, const Remaining *rest, size_t first, size_t count)
 {
     size_t chosen = first;
     for (size_t i = first + 1; i < count; ++i)
         if (rest[i].bound > rest[chosen].bound ||
-            (rest[i].bound == rest[chosen].bound && rest[i].place > rest[chosen].place))
+            (rest[i].bound == rest[chosen].bound &&
+             pair_of(set.at[rest[i].place]) > pair_of(set.at[rest[chosen].place])))
             chosen = i;
     return chosen;
 }
@@ -137,7 +139,7 @@ uint32_t assign(const uint8_t *records, size_t records_len, uint8_t *deadlines,
               [](const Remaining &a, const Remaining &b) { return a.release < b.release; });
     for (size_t count = set.count; count > 0; --count) {
         const Base base = base_of(rest, count);
-        const size_t chosen = base_subjob(rest, base.first, count);
+        const size_t chosen = base_subjob(set, rest, base.first, count);
         if (rest[chosen].bound < static_cast<int64_t>(base.completion))
             return refused(CHAROKTAN_LATE, rest[chosen].place);
         results[rest[chosen].place] = base.completion;

@@ -258,6 +258,30 @@ bool show_nothing()
            !charoktan::check(nullptr, 0, deadlines.data(), 4).accepted();
 }
 
+// Another build of a room writes its folders in another order, here the other way round. Each stage
+// keeps its deadline, or the refusal names the same stage.
+bool same_in_another_build(const Set &set, charoktan::answer answer, const Moments &deadlines)
+{
+    const Set turned(set.rbegin(), set.rend());
+    Moments again(set.size());
+    const charoktan::answer other = charoktan::assign(turned, again);
+    if (answer.accepted())
+        return other.accepted() && std::equal(again.rbegin(), again.rend(), deadlines.begin());
+    return other.number() == answer.number() && other.place() == set.size() - 1 - answer.place();
+}
+
+// Two doors that are alike but for their numbers, so that their stages have equal bounds.
+bool show_two_builds()
+{
+    const Set set = subjobs_of({{1, 0, 50, {6, 4, 5, 3}}, {2, 0, 50, {6, 4, 5, 3}}});
+    Moments deadlines(set.size());
+    const charoktan::answer answer = charoktan::assign(set, deadlines);
+    const bool same = same_in_another_build(set, answer, deadlines);
+    std::printf("two doors alike, in two builds of their room: %s deadlines\n\n",
+                same ? "the same" : "NOT the same");
+    return answer.accepted() && same;
+}
+
 Room random_room(Dice &dice)
 {
     Room room(dice.roll(1, 32));
@@ -284,6 +308,7 @@ bool play_rooms(Dice &dice, uint32_t rooms)
         const Set set = subjobs_of(random_room(dice));
         Moments deadlines(set.size(), 0);
         const charoktan::answer answer = charoktan::assign(set, deadlines);
+        kept = kept && same_in_another_build(set, answer, deadlines);
         if (!answer.accepted()) {
             kept = kept && answer.number() == charoktan::refusal::late;
             continue;
@@ -315,8 +340,9 @@ int main()
     const bool room = show_room(dice);
     const bool refusals = show_refusals();
     const bool nothing = show_nothing();
+    const bool builds = show_two_builds();
     const bool rooms = play_rooms(dice, 2000);
-    const bool kept = room && refusals && nothing && rooms;
+    const bool kept = room && refusals && nothing && builds && rooms;
     std::printf("%s\n", kept ? "every promise was kept" : "A PROMISE WAS BROKEN");
     return kept ? 0 : 1;
 }

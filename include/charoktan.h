@@ -111,7 +111,8 @@ enum charoktan_refusal {
 };
 
 /* Assigns: writes a local deadline per sub-job, 4 bytes each (a uint32_t), in the records' order.
- * Returns 0, or the refusal's number plus 65,536 times its place. Lengths are in bytes. */
+ * Returns 0, or the refusal's number plus 65,536 times its place. Lengths are in bytes. The order of
+ * the records does not matter: in another order each sub-job gets the same deadline. */
 CHAROKTAN_NODISCARD uint32_t charoktan_assign(const uint8_t *records, size_t records_len,
                                               uint8_t *deadlines,
                                               size_t deadlines_len) CHAROKTAN_NOEXCEPT;

@@ -1,145 +1,20 @@
 // The stored cases: what `trial` reads and must answer, and the tables for `deadlines`.
-// First the edges by hand, then random cases around them; the seed is fixed. Whole tables by
-// another seed are written in the same form and stored nowhere.
+// First the edges by hand, then random cases around them, then some rearranged; the seed is fixed.
+// Whole tables by another seed are written in the same form and stored nowhere.
 #include "commands.hpp"
 #include "sets.hpp"
+#include "trial.hpp"
 
 #include <algorithm>
 #include <filesystem>
 #include <fstream>
 #include <iostream>
+#include <numeric>
 #include <stdexcept>
 
 static constexpr u32 LARGEST = 4'294'967'295;
 static constexpr u64 LARGEST_64 = 18'446'744'073'709'551'615u;
 static constexpr u64 MOST_TICKS = 1'000'000'000'000'000'000;
-
-// ---------------------------------------------------------------- cases as text
-
-// Every number is followed by one space, the last one of a case by LF instead.
-static void put(std::string& text, u64 number) { text += std::to_string(number) + ' '; }
-
-static void put(std::string& text, const List& list) {
-    put(text, list.size());
-    for (u32 number : list) put(text, number);
-}
-
-static void put(std::string& text, const Set& set) {
-    for (const List* list :
-         {&set.job, &set.subtask, &set.release, &set.execution, &set.deadline, &set.critical})
-        put(text, *list);
-}
-
-static void end_line(std::string& text) { text.back() = '\n'; }
-
-template <class Number>
-static void say(std::string& text, Number number) {
-    text += ' ';
-    text += std::to_string(number);
-}
-
-static void say(std::string& text, const Refusal& refusal) {
-    text += "refused";
-    say(text, refusal.number);
-    say(text, refusal.place);
-    if (refusal.number == 3) say(text, u32{refusal.field});
-    if (refusal.number == 5) {
-        say(text, refusal.completion);
-        say(text, refusal.bound);
-    }
-}
-
-static void say_list(std::string& text, const List& list) {
-    text += " :";
-    for (u32 number : list) say(text, number);
-}
-
-// The two texts as they grow. A case that single ticks cannot answer in time is left out of both.
-class Trial {
-public:
-    std::string in, out;
-    std::array<std::size_t, 5> count{};  // by kind; kind 0 is the end
-
-    void ask_assign(const Set& set, const List& before) {
-        List results = before;
-        const Assigned answer = assign(set, results);
-        put(in, 1);
-        put(in, set);
-        put(in, before);
-        end_line(in);
-        if (answer.refused) {
-            say(out, *answer.refused);
-        } else if (answer.nothing) {
-            out += "nothing";
-        } else {
-            out += "placed";
-            say(out, answer.slack);
-            say(out, answer.place);
-        }
-        say_list(out, results);
-        out += '\n';
-        ++count[1];
-    }
-
-    void ask_simulate(const Set& set, const List& deadlines, const List& asks, const List& before,
-                      const Totals& totals_before) try {
-        List finishes = before;
-        Totals totals = totals_before;
-        const Simulated answer = simulate(set, deadlines, asks, finishes, totals);
-        put(in, 2);
-        put(in, set);
-        put(in, deadlines);
-        put(in, asks);
-        put(in, before);
-        put(in, totals_before.busy);
-        put(in, totals_before.idle);
-        end_line(in);
-        if (answer.refused) {
-            say(out, *answer.refused);
-        } else {
-            out += "ran";
-            say(out, answer.end);
-        }
-        out += " :";
-        say(out, totals.busy);
-        say(out, totals.idle);
-        say_list(out, finishes);
-        out += '\n';
-        ++count[2];
-    } catch (const TooManyTicks&) {
-    }
-
-    void ask_check(const Set& set, const List& proposed) try {
-        const Refused answer = check(set, proposed);
-        put(in, 3);
-        put(in, set);
-        put(in, proposed);
-        end_line(in);
-        if (answer)
-            say(out, *answer);
-        else
-            out += "accepted";
-        out += '\n';
-        ++count[3];
-    } catch (const TooManyTicks&) {
-    }
-
-    void ask_table(const std::string& text) try {
-        const std::string output = table(text);
-        put(in, 4);
-        put(in, text.size());
-        end_line(in);
-        in += text + '\n';
-        out += std::to_string(output.size()) + '\n' + output + '\n';
-        ++count[4];
-    } catch (const TooManyTicks&) {
-    }
-
-    void ask_end() {
-        put(in, 0);
-        end_line(in);
-    }
-};
 
 // ---------------------------------------------------------------- edges by hand
 
@@ -435,6 +310,53 @@ static void check_edges(Trial& trial, Dice& dice) {
         trial.ask_check(many(128), List(128, deadline));
 }
 
+// ---------------------------------------------------------------- ties by hand
+
+// A set of three in each of its six orders, placed and run on equal deadlines.
+static void ask_all_orders(Trial& trial, const Set& set) {
+    const List before = {7, 8, 9}, deadlines = {4, 4, 4};
+    trial.ask_assign(set, before);
+    trial.ask_simulate(set, deadlines, set.execution, before, {0, 0});
+    for (Order order = {0, 1, 2}; std::next_permutation(order.begin(), order.end());) {
+        trial.ask_assign_again(set, before, order);
+        trial.ask_simulate_again(set, deadlines, set.execution, before, {0, 0}, order);
+    }
+}
+
+static Order reversed(std::size_t n) {
+    Order order(n);
+    std::iota(order.rbegin(), order.rend(), 0);
+    return order;
+}
+
+// Ties that the list's order must not decide.
+static void tie_edges(Trial& trial) {
+    // Equal bounds, with room for all and with too little: the job first, then the subtask.
+    struct Names {
+        List jobs, subtasks;
+    };
+    for (const auto& [jobs, subtasks] :
+         {Names{{1, 1, 2}, {2, 1, 0}}, Names{{7, 7, 7}, {0, LARGEST, 1}},
+          Names{{0, LARGEST, LARGEST}, {LARGEST, 0, LARGEST}},
+          Names{{2'147'483'648, 2'147'483'647, 2'147'483'647}, {0, 5, 4}}})
+        for (u32 latest : {9u, 5u}) {
+            Set set = set_of({{0, 1, latest}, {0, 2, latest}, {0, 3, latest}});
+            set.job = jobs;
+            set.subtask = subtasks;
+            ask_all_orders(trial, set);
+        }
+    // Equal least slacks: the smallest place that has it.
+    ask_all_orders(trial, set_of({{0, 1, 4}, {10, 1, 14}, {20, 1, 25}}));
+
+    // Sets that are asked above.
+    for (const Set& set : {p4(), p5(), p6(), p8(), many(128), many(129)}) {
+        const std::size_t n = set.job.size();
+        trial.ask_assign_again(set, List(n, 6), reversed(n));
+    }
+    trial.ask_table(plain_table(p6()));
+    trial.ask_table_again(plain_table(p6()), {1, 0});
+}
+
 // ---------------------------------------------------------------- random cases
 
 // Mostly small, some so large that they are placed by tails, a few around 128.
@@ -623,15 +545,64 @@ static void damage_lines(Dice& dice, std::string& text) {
 }
 
 // A whole table, up to 128 records and sometimes more, over the whole range of times; some are
-// damaged, some of these more than once.
+// damaged, some of these more than once, and some of the others follow once more, rearranged.
 static void random_whole_table(Trial& trial, Dice& dice) {
     const std::size_t n = dice.chance(25) ? dice.between(124, 131) : dice.between(0, 100);
-    Set set = random_set(dice, n);
+    Set set = dice.chance(20) ? tied_set(dice, n) : random_set(dice, n);
     while (n > 0 && dice.chance(10)) make_wrong(dice, set);
-    std::string text = random_text(dice, set);
+    const std::string whole = random_text(dice, set);
+    std::string text = whole;
     while (!text.empty() && dice.chance(40)) damage_lines(dice, text);
     if (!text.empty() && dice.chance(10)) damage(dice, text);
     trial.ask_table(text);
+    if (text == whole && dice.chance(50)) trial.ask_table_again(text, random_order(dice, n));
+}
+
+// ---------------------------------------------------------------- rearranged
+
+// Mostly small and with many ties; some have something wrong.
+static Set set_to_rearrange(Dice& dice) {
+    const std::size_t n = dice.chance(4) ? dice.between(13, 24) : dice.between(2, 6);
+    Set set = dice.chance(60) ? tied_set(dice, n) : random_set(dice, n);
+    if (dice.chance(12)) make_wrong(dice, set);
+    return set;
+}
+
+// Each of these asks a case, and then the same case rearranged.
+static void assign_pair(Trial& trial, Dice& dice) {
+    const Set set = set_to_rearrange(dice);
+    const List before = random_list(dice, set.job.size());
+    trial.ask_assign(set, before);
+    trial.ask_assign_again(set, before, random_order(dice, set.job.size()));
+}
+
+static void simulate_pair(Trial& trial, Dice& dice) {
+    const Set set = set_to_rearrange(dice);
+    List deadlines = random_deadlines(dice, set);
+    if (dice.chance(50))
+        for (u32& deadline : deadlines) deadline = dice.below(2);
+    const List asks = random_asks(dice, set);
+    const List before = random_list(dice, set.job.size());
+    Totals totals;
+    totals.busy = random_total(dice);
+    totals.idle = random_total(dice);
+    trial.ask_simulate(set, deadlines, asks, before, totals);
+    trial.ask_simulate_again(set, deadlines, asks, before, totals,
+                             random_order(dice, set.job.size()));
+}
+
+static void check_pair(Trial& trial, Dice& dice) {
+    const Set set = set_to_rearrange(dice);
+    const List proposed = random_proposal(dice, set);
+    trial.ask_check(set, proposed);
+    trial.ask_check_again(set, proposed, random_order(dice, set.job.size()));
+}
+
+static void table_pair(Trial& trial, Dice& dice) {
+    Set set = set_to_rearrange(dice);
+    const std::string text = random_text(dice, set);
+    trial.ask_table(text);
+    trial.ask_table_again(text, random_order(dice, set.job.size()));
 }
 
 // ---------------------------------------------------------------- the command
@@ -664,6 +635,7 @@ int write_cases(const std::string& folder) {
     assign_edges(trial, dice);
     simulate_edges(trial, dice);
     check_edges(trial, dice);
+    tie_edges(trial);
     for (const NamedText& named : named_texts()) trial.ask_table(named.text);
     for (const std::string& text : further_texts()) trial.ask_table(text);
     most_looks = 20'000'000;
@@ -674,6 +646,10 @@ int write_cases(const std::string& folder) {
         random_table(trial, dice);
     }
     for (int k = 0; k < 30; ++k) random_whole_table(trial, dice);
+    for (int k = 0; k < 60; ++k) assign_pair(trial, dice);
+    for (int k = 0; k < 40; ++k) simulate_pair(trial, dice);
+    for (int k = 0; k < 30; ++k) check_pair(trial, dice);
+    for (int k = 0; k < 30; ++k) table_pair(trial, dice);
 
     const std::filesystem::path top(folder);
     write_trial(trial, top);

@@ -1,7 +1,8 @@
-// Random calls of the engine's door, answered here and by the archive, and compared byte by byte.
+// Random calls of the engine's door, answered here and by the archive, and compared byte by byte;
+// some are made once more on the same records in another order.
 // The archive is x86-64 and may need an emulator, so it is called by a runner process (runner.cpp).
 #include "commands.hpp"
-#include "sets.hpp"
+#include "rearranged.hpp"
 
 #include <algorithm>
 #include <cerrno>
@@ -67,7 +68,10 @@ static void damage_length(Dice& dice, Bytes& bytes) {
 
 static Call random_call(Dice& dice) {
     const std::size_t n = random_count(dice);
-    Set set = dice.chance(4) ? set_at_range_ends(dice, n) : random_set(dice, n);
+    const u32 roll = dice.below(100);
+    Set set = roll < 4    ? set_at_range_ends(dice, n)
+              : roll < 20 ? tied_set(dice, n)
+                          : random_set(dice, n);
     while (n > 0 && dice.chance(7)) make_wrong(dice, set);
 
     Call call;
@@ -88,6 +92,7 @@ static Call random_call(Dice& dice) {
 struct Case {
     Call call;
     Reply reply;
+    bool again = false;  // the call before it, on the same records in another order
 };
 
 static Case random_case(Dice& dice) {
@@ -100,9 +105,44 @@ static Case random_case(Dice& dice) {
     }
 }
 
+// A slice of entries of one width, in another order.
+static Bytes in_order(const Bytes& bytes, const Order& order, std::ptrdiff_t width) {
+    Bytes moved;
+    for (std::size_t place : order) {
+        const auto from = bytes.begin() + static_cast<std::ptrdiff_t>(place) * width;
+        moved.insert(moved.end(), from, from + width);
+    }
+    return moved;
+}
+
+static Refused refused(u32 returned) {
+    if (returned == 0) return {};
+    return Refusal{.number = returned % 65'536, .place = returned / 65'536};
+}
+
+// A call whose slices fit, on the same records in another order. The reply is made from the first
+// one's and must be the rules' own.
+static Case rearranged_case(Dice& dice, const Case& first) {
+    const Order order = random_order(dice, first.call.records.size() / 24);
+    const auto& [kind, placement, records, deadlines] = first.call;
+    const Call call{kind, placement, in_order(records, order, 24), in_order(deadlines, order, 4)};
+    const Reply again = expected(call);
+    const Refused moved =
+        rearranged(refused(first.reply.returned), order, refused(again.returned));
+    const Reply reply{moved ? moved->number + 65'536 * static_cast<u32>(moved->place) : 0,
+                      call.records, in_order(first.reply.deadlines, order, 4)};
+    must_agree(reply == again);
+    return {call, reply, true};
+}
+
 static std::vector<Case> random_batch(Dice& dice, u64 size) {
     std::vector<Case> batch;
-    for (u64 k = 0; k < size; ++k) batch.push_back(random_case(dice));
+    while (batch.size() < size) {
+        batch.push_back(random_case(dice));
+        const bool fits = batch.back().reply.returned != 1;
+        if (fits && batch.size() < size && dice.chance(25))
+            batch.push_back(rearranged_case(dice, batch.back()));
+    }
     return batch;
 }
 
@@ -182,7 +222,7 @@ static void append(Bytes& bytes, const Bytes& more) {
 
 static Bytes as_bytes(const std::vector<Case>& batch) {
     Bytes body;
-    for (const auto& [call, reply] : batch) {
+    for (const auto& [call, reply, again] : batch) {
         append(body, encode(List{call.kind, call.placement, static_cast<u32>(call.records.size()),
                                  static_cast<u32>(call.deadlines.size())}));
         append(body, call.records);
@@ -259,31 +299,34 @@ int compare_door(u64 count, u64 seed, const std::vector<std::string>& command) {
     Dice dice(seed);
     Tally tally;
     Runner runner(command);
-    u64 done = 0;
+    u64 done = 0, rearranged_calls = 0;
     std::vector<Case> batch = random_batch(dice, std::min(most, count));
     while (!batch.empty()) {
         const bool sent = runner.send(as_bytes(batch));
         // The next batch is made while the runner works on this one.
         std::vector<Case> next = random_batch(dice, std::min(most, count - done - batch.size()));
-        for (const auto& [call, reply] : batch) {
+        for (const auto& [call, reply, again] : batch) {
             const std::optional<Reply> other = sent ? receive_reply(runner, call) : std::nullopt;
             if (!other) {
                 print_crash(command, batch, runner.end());
                 return 1;
             }
             if (*other != reply) {
-                std::cerr << "call " << done << " of seed " << seed << " differs\n";
+                std::cerr << "call " << done << " of seed " << seed << " differs"
+                          << (again ? "; it is the call before it, rearranged\n" : "\n");
                 print(call);
                 print("this program", reply);
                 print("the archive", *other);
                 return 1;
             }
             ++tally[{call.kind, reply.returned % 65'536}];
+            rearranged_calls += again;
             ++done;
         }
         batch = std::move(next);
     }
     print(tally);
-    std::cout << done << " door calls of seed " << seed << ": all equal\n";
+    std::cout << done << " door calls of seed " << seed << ", " << rearranged_calls
+              << " of them the call before rearranged: all equal\n";
     return 0;
 }

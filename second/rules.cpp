@@ -113,6 +113,18 @@ Places base_by_tails(const Set& set, const Places& remaining) {
     return greatest.subset;
 }
 
+// The greatest upper bound; of several the greatest job, then the greatest subtask. No two have the
+// same pair, so the list's order does not decide.
+std::size_t base_subjob(const Set& set, const Places& base) {
+    const auto order = [&](std::size_t place) {
+        return std::tuple(bound(set, place), set.job[place], set.subtask[place]);
+    };
+    std::size_t chosen = base.front();
+    for (std::size_t place : base)
+        if (order(place) > order(chosen)) chosen = place;
+    return chosen;
+}
+
 Assigned assign(const Set& set, List& results) {
     if (const Refused refused = numbers_1_to_4(set, {results.size()})) return {.refused = refused};
     if (results.empty()) return {.refused = {}, .nothing = true};
@@ -124,10 +136,7 @@ Assigned assign(const Set& set, List& results) {
         const Places base = remaining.size() <= FEW ? base_by_all_subsets(set, remaining)
                                                     : base_by_tails(set, remaining);
         const i64 completed = completion(set, base);
-        // Places rise, so that "not below" leaves the latest in the list of several.
-        std::size_t chosen = base.front();
-        for (std::size_t place : base)
-            if (bound(set, place) >= bound(set, chosen)) chosen = place;
+        const std::size_t chosen = base_subjob(set, base);
         if (bound(set, chosen) < completed)
             return {.refused = Refusal{.number = 5,
                                        .place = chosen,

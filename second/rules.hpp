@@ -35,6 +35,7 @@ struct Refusal {
     Field field = NO_FIELD;
     i64 completion = 0;
     i64 bound = 0;
+    bool operator==(const Refusal&) const = default;
 };
 using Refused = std::optional<Refusal>;
 
@@ -49,6 +50,7 @@ i64 smallest_release(const Set& set, const Places& subset);
 i64 completion(const Set& set, const Places& subset);
 Places base_by_all_subsets(const Set& set, const Places& remaining);
 Places base_by_tails(const Set& set, const Places& remaining);
+std::size_t base_subjob(const Set& set, const Places& base);
 
 // All subsets are looked at up to this many sub-jobs; beyond it 2^n is too long.
 constexpr std::size_t FEW = 12;
@@ -58,6 +60,7 @@ struct Assigned {
     bool nothing = false;  // the empty set's own report
     i64 slack = 0;         // the least slack, and the smallest place that has it
     std::size_t place = 0;
+    bool operator==(const Assigned&) const = default;
 };
 Assigned assign(const Set& set, List& results);
 
@@ -79,10 +82,12 @@ inline u64 most_looks = 20'000'000;  // some hundredths of a second
 
 struct Totals {
     u64 busy = 0, idle = 0;
+    bool operator==(const Totals&) const = default;
 };
 struct Simulated {
     Refused refused;
     u64 end = 0;
+    bool operator==(const Simulated&) const = default;
 };
 Simulated simulate(const Set& set, const List& deadlines, const List& asks, List& finishes,
                    Totals& totals);

@@ -1,9 +1,10 @@
-// The second program's checks of itself: the rules' own cases, and each thing that the rules say in
-// two ways, compared on many small sets.
+// The second program's checks of itself: the rules' own cases, each thing that the rules say in two
+// ways, compared on many small sets, and the same sets rearranged.
 #include "commands.hpp"
 #include "sets.hpp"
 
 #include <iostream>
+#include <map>
 #include <numeric>
 
 static int failures = 0;
@@ -52,7 +53,7 @@ static void edges_of_the_rules() {
     expect(base_by_all_subsets(p4(), {0, 1, 2, 3}) == Places{1, 2, 3}, "P4's first base subset");
     expect(completion(p4(), {1, 2, 3}) == 9, "P4's first completion");
     expect_placed("P5", p5(), {4, 7}, 3, 1);
-    expect_placed("P6", p6(), {2, 5}, 4, 1);
+    expect_placed("P6", p6(), {5, 3}, 4, 0);
     expect_refused_5("P7", p7(), 0, 1, -2);
     expect_refused_5("P8", p8(), 0, 4, 3);
     expect_placed("P9", p9(), {1'001'000'000}, 999'000'000, 0);
@@ -148,24 +149,157 @@ static void accepted_sets(const Set& set, std::array<int, 2>& seen) {
     expect(run.busy + run.idle == run.end, "busy and idle ticks make up the run");
 }
 
+// ---------------------------------------------------------------- rearranged
+
+// A set's list in another order.
+struct Rearranged {
+    const Set& set;
+    Order order;
+    Set moved = in_order(set, order);
+};
+
+// What each sub-job has in a list, by its job and subtask: the same wherever it stands.
+static std::map<std::pair<u32, u32>, u32> by_pair(const Set& set, const List& list) {
+    std::map<std::pair<u32, u32>, u32> numbers;
+    for (std::size_t place = 0; place < list.size(); ++place)
+        numbers[{set.job[place], set.subtask[place]}] = list[place];
+    return numbers;
+}
+
+static bool same_pair(const Set& set, std::size_t place, const Set& other, std::size_t there) {
+    return set.job[place] == other.job[there] && set.subtask[place] == other.subtask[there];
+}
+
+static u32 number_of(const Refused& refused) { return refused ? refused->number : 0; }
+
+static void rearranged_assignment(const Rearranged& r) {
+    List local(r.order.size()), local_moved(r.order.size());
+    const Assigned first = assign(r.set, local), again = assign(r.moved, local_moved);
+    const bool stays = number_of(again.refused) == number_of(first.refused);
+    expect(stays, "rearranged, accepted and number 5 stay");
+    if (!stays) return;
+    if (first.refused) {
+        expect(again.refused->completion == first.refused->completion &&
+                   again.refused->bound == first.refused->bound &&
+                   same_pair(r.set, first.refused->place, r.moved, again.refused->place),
+               "rearranged, number 5 is of the same sub-job");
+        return;
+    }
+    expect(by_pair(r.set, local) == by_pair(r.moved, local_moved),
+           "rearranged, each keeps its deadline");
+    const auto slack_at = [&](std::size_t place) {
+        return bound(r.moved, place) - local_moved[place];
+    };
+    bool smallest = slack_at(again.place) == first.slack;
+    for (std::size_t place = 0; place < again.place; ++place)
+        smallest = smallest && slack_at(place) > first.slack;
+    expect(again.slack == first.slack && smallest,
+           "rearranged, the least slack stays, at the smallest place that has it");
+}
+
+static void rearranged_run(const Rearranged& r, const List& deadlines, const List& asks,
+                           const Totals& before) {
+    List finishes(r.order.size()), finishes_moved(r.order.size());
+    Totals totals = before, totals_moved = before;
+    const Simulated first = simulate(r.set, deadlines, asks, finishes, totals);
+    const Simulated again = simulate(r.moved, in_order(deadlines, r.order),
+                                     in_order(asks, r.order), finishes_moved, totals_moved);
+    expect(first == again && totals == totals_moved, "rearranged, end, totals and number 8 stay");
+    expect(by_pair(r.set, finishes) == by_pair(r.moved, finishes_moved),
+           "rearranged, each keeps its finish");
+}
+
+static void rearranged_check(const Rearranged& r, const List& proposed) {
+    expect(number_of(check(r.set, proposed)) ==
+               number_of(check(r.moved, in_order(proposed, r.order))),
+           "rearranged, accepted and numbers 6 and 7 stay");
+}
+
+// Numbers 1 to 4; 1 if the list beside the six is longer than they are.
+static void rearranged_faults(const Rearranged& r, std::size_t longer) {
+    const std::vector<std::size_t> others = {r.order.size() + longer};
+    expect(number_of(numbers_1_to_4(r.set, others)) == number_of(numbers_1_to_4(r.moved, others)),
+           "rearranged, numbers 1 to 4 stay");
+}
+
+// Sets with a tie for the first base sub-job, with one among a job's own subtasks, and with one for
+// the least slack.
+struct Ties {
+    int bounds = 0, within_a_job = 0, slacks = 0;
+
+    void look_at(const Set& set) {
+        Places all(set.job.size());
+        std::iota(all.begin(), all.end(), 0);
+        const Places base = base_by_all_subsets(set, all);
+        const std::size_t chosen = base_subjob(set, base);
+        int equal = 0, of_the_job = 0, least = 0;
+        for (std::size_t place : base) {
+            if (bound(set, place) != bound(set, chosen)) continue;
+            ++equal;
+            of_the_job += set.job[place] == set.job[chosen];
+        }
+        List local(all.size());
+        const Assigned answer = assign(set, local);
+        for (std::size_t place : all)
+            least += !answer.refused && bound(set, place) - local[place] == answer.slack;
+        bounds += equal > 1;
+        within_a_job += of_the_job > 1;
+        slacks += least > 1;
+    }
+};
+
+static List small_list(Dice& dice, std::size_t n, u32 sides) {
+    List list(n);
+    for (u32& number : list) number = dice.below(sides);
+    return list;
+}
+
+static void rearranged_sets(Dice& dice, const Set& set, const List& proposed, Ties& ties) {
+    const std::size_t n = set.job.size();
+    const Rearranged r{set, random_order(dice, n)};
+    ties.look_at(set);
+    rearranged_assignment(r);
+    rearranged_check(r, proposed);
+    const List deadlines = small_list(dice, n, 3), asks = small_list(dice, n, 5);
+    const u64 idle = dice.chance(10) ? 1'000'000'000'000'000'000 - dice.below(20) : 6;
+    rearranged_run(r, deadlines, asks, {5, idle});
+    rearranged_run(r, proposed, set.execution, {5, idle});
+
+    Set wrong = set;
+    make_wrong(dice, wrong);
+    rearranged_faults({wrong, r.order}, dice.chance(10) ? 1 : 0);
+}
+
+// ---------------------------------------------------------------- the command
+
 int check_self() {
     edges_of_the_rules();
 
     Dice dice(1);
     std::array<int, 2> assigned{};
     std::array<int, 3> checked{};
+    Ties ties;
     for (int k = 0; k < 20'000; ++k) {
         const u32 n = dice.chance(5) ? dice.between(8, FEW) : dice.between(1, 7);
-        const Set set = random_set(dice, n);
+        const Set set = dice.chance(25) ? tied_set(dice, n) : random_set(dice, n);
         const List proposed = random_proposal(dice, set);
         tails_against_all_subsets(set);
         if (k % 10 == 0) expect(no_tie_at_the_base(set), "one base subset");
         conditions_against_finishes(set, proposed, checked);
         accepted_sets(set, assigned);
+        rearranged_sets(dice, set, proposed, ties);
         if (failures > 20) break;
     }
+    const Set many = tied_set(dice, MOST_SUBJOBS + 1);
+    rearranged_faults({many, random_order(dice, MOST_SUBJOBS + 1)}, 0);
+    if (failures == 0)
+        expect(ties.bounds > 2000 && ties.within_a_job > 1000 && ties.slacks > 2000,
+               "many ties");
     std::cout << "sets placed " << assigned[0] << ", refused by 5 " << assigned[1]
               << "; proposals accepted " << checked[0] << ", against (6) " << checked[1]
-              << ", against (7) " << checked[2] << "; failures " << failures << "\n";
+              << ", against (7) " << checked[2] << "\n"
+              << "rearranged with a tie of bounds " << ties.bounds << ", within a job "
+              << ties.within_a_job << ", of least slacks " << ties.slacks << "; failures "
+              << failures << "\n";
     return failures == 0 ? 0 : 1;
 }

@@ -2,6 +2,7 @@
 #include "sets.hpp"
 
 #include <algorithm>
+#include <numeric>
 #include <utility>
 
 static constexpr u32 LATEST_RELEASE = 1'000'000'000, LONGEST_EXECUTION = 1'000'000,
@@ -130,11 +131,25 @@ Set random_set(Dice& dice, std::size_t n) {
     }
 
     // Touching blocks were laid in list order; the list itself has no order to rely on.
-    if (touching)
-        for (u32 k = count - 1; k > 0; --k) {
-            const u32 other = dice.below(k + 1);
-            for (List* list : lists(set)) std::swap((*list)[k], (*list)[other]);
-        }
+    return touching ? in_order(set, random_order(dice, n)) : set;
+}
+
+Set tied_set(Dice& dice, std::size_t n) {
+    Set set;
+    name(dice, n, set);
+    const u32 count = static_cast<u32>(n);
+    const u32 blocks = dice.between(1, 3);
+    const u32 longest = dice.one_of({1, 1, 2, 3});
+    const u32 room = dice.between(count / blocks, longest * count + 2);
+    const u32 uneven = dice.one_of({0, 0, 20});
+    for (u32 k = 0; k < count; ++k) {
+        const u32 release = k % blocks * (longest * count + 2);
+        const u32 critical = dice.below(3);
+        set.release.push_back(release);
+        set.execution.push_back(dice.between(1, longest));
+        set.deadline.push_back(release + room + critical + (dice.chance(uneven) ? 1 : 0));
+        set.critical.push_back(critical);
+    }
     return set;
 }
 
@@ -217,4 +232,30 @@ List random_proposal(Dice& dice, const Set& set) {
         one = dice.one_of({0, 1, LARGEST});
     }
     return proposed;
+}
+
+// ---------------------------------------------------------------- rearranging
+
+Order random_order(Dice& dice, std::size_t n) {
+    Order order(n);
+    std::iota(order.begin(), order.end(), 0);
+    for (std::size_t k = n; k > 1; --k)
+        std::swap(order[k - 1], order[dice.below(static_cast<u32>(k))]);
+    return order;
+}
+
+List in_order(const List& list, const Order& order) {
+    List moved;
+    for (std::size_t place : order) moved.push_back(list[place]);
+    return moved;
+}
+
+Set in_order(const Set& set, const Order& order) {
+    Set moved = set;
+    for (List* list : lists(moved)) *list = in_order(*list, order);
+    return moved;
+}
+
+std::size_t new_place(const Order& order, std::size_t place) {
+    return static_cast<std::size_t>(std::find(order.begin(), order.end(), place) - order.begin());
 }

@@ -55,6 +55,10 @@ Set random_set(Dice& dice, std::size_t n);
 // The same with every field at an end of its range. Some have more to serve than single ticks can.
 Set set_at_range_ends(Dice& dice, std::size_t n);
 
+// The same with many ties: blocks of sub-jobs that are released together, most bounds of a block
+// equal, and as much room in one block as in the other, so that slacks are equal too.
+Set tied_set(Dice& dice, std::size_t n);
+
 // Something made wrong in a set that is not empty: a field out of range, or one pair made
 // another's.
 void make_wrong(Dice& dice, Set& set);
@@ -64,3 +68,15 @@ List random_list(Dice& dice, std::size_t n);
 
 // Proposed local deadlines: some that hold, some that miss by little, some far off.
 List random_proposal(Dice& dice, const Set& set);
+
+// ---------------------------------------------------------------- rearranging
+
+// A rearrangement of a list: for each place the old place of what stands there now.
+using Order = std::vector<std::size_t>;
+
+Order random_order(Dice& dice, std::size_t n);
+List in_order(const List& list, const Order& order);
+Set in_order(const Set& set, const Order& order);
+
+// Where the sub-job stands now that stood at this place.
+std::size_t new_place(const Order& order, std::size_t place);

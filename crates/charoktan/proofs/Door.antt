@@ -14,6 +14,7 @@ use Rattle.subjobs.specs.declared.Reason.the-variants.{TooMany}
 use Rattle.subjobs.specs.Sets.{Subjobs, size}
 use Rattle.subjobs.specs.Judging.{judgement}
 use Rattle.subjobs.specs.Faults as faults
+use Rattle.subjobs.specs.Faults.{OneLength}
 use Rattle.subjobs.proofs.Fit.{judged-exactly}
 use Rattle.olda.specs.declared.Answer.{Answer}
 use Rattle.olda.specs.declared.Answer.the-variants.{Refused}
@@ -34,16 +35,18 @@ pub size-records : (bs : List ℕ) → size (records bs) ≡ count bs
 unfolding records
 size-records bs = length-column bs 24 0 (count bs)
 
--- More than 128 records are too many sub-jobs.
-judged-many : (bs : List ℕ) (others : Bool) → others ≡ true → 128 < count bs → judgement (records bs) others ≡ judged.Refused TooMany
+-- The six lists that the records are read into are of one length.
+pub records-lengths : (bs : List ℕ) (others : Bool) → others ≡ true → OneLength (records bs) others
 unfolding records
-judged-many bs others e h =
+records-lengths bs others e =
     let n = count bs in
     let l : (k : ℕ) → length (column bs 24 k n) ≡ length (column bs 24 0 n) = λ k. length-column bs 24 k n ∙ sym (length-column bs 24 0 n) in
-    judged-exactly (records bs) others TooMany .1
-    (faults.many
-    (record { subtasks = l 4; releases = l 8; executions = l 12; deadlines = l 16; criticals = l 20; further = e })
-    (rw (length-column bs 24 0 n) h))
+    record { subtasks = l 4; releases = l 8; executions = l 12; deadlines = l 16; criticals = l 20; further = e }
+
+-- More than 128 records are too many sub-jobs.
+judged-many : (bs : List ℕ) (others : Bool) → others ≡ true → 128 < count bs → judgement (records bs) others ≡ judged.Refused TooMany
+judged-many bs others e h =
+    judged-exactly (records bs) others TooMany .1 (faults.many (records-lengths bs others e) (rw (size-records bs) h))
 
 module _ (bs out : List ℕ) where
   pub unfit : fitting bs (length out) ≡ false → (assigned bs (length out) ≡ 1) × (assignedBytes bs out ≡ out)

@@ -7,7 +7,7 @@
 use Prim.Native.Nat.{ℕ, _+_, _≤_, _<_}
 use mathlib.Core.Bool.{Bool, true, false, _&&_}
 use mathlib.Core.List.{List}
-use mathlib.Core.Logic.{_⊎_, _↔_, inl, inr}
+use mathlib.Core.Logic.{_⊎_, _↔_}
 use mathlib.Core.Path.{_≡_}
 use native.Mathlib.Omega.{arith}
 use borrow.Author.Tests.{le-leb}
@@ -60,7 +60,7 @@ module _ (s : Subjobs) (ds : List ℕ) where
   abbrev pub OnTime : ℕ → Type 0
   OnTime i = finishOf i ≤ proposed i
 
-  abbrev All : (ℕ → Type 0) → Type 0
+  abbrev pub All : (ℕ → Type 0) → Type 0
   All P = (i : ℕ) → i < size s → P i
 
   abbrev pub Unmets : Reason → Type 0
@@ -85,19 +85,21 @@ module _ (s : Subjobs) (ds : List ℕ) where
         (omega arith, omega (arith, F .ranges i b .some), omega (arith, by i b, finish-at s ds (s .executions) i b))),
   )
 
-  conditions :
-      Exactly (orElse (six s ds) (seven s ds)) (All Meets × All OnTime) (λ r. Unmets r ⊎ (All Meets × Misses r))
-  conditions =
-      exactly-or
-      (exactly-first _ _ _
+  -- 6 and 7, each by itself.
+  pub six-exactly : Exactly (six s ds) (All Meets) Unmets
+  six-exactly =
+      exactly-first _ _ _
       (λ i.
       exactly-unless (sixTest (terms s) proposed i) (Unmet i) (six-yes (terms s) proposed i) (six-no (terms s) proposed i)
       (λ m n. n m))
-      (size s))
-      (exactly-first _ OnTime (λ i r. (r ≡ Missed i) × (OnTime i → ⊥))
+      (size s)
+
+  pub seven-exactly : Exactly (seven s ds) (All OnTime) Misses
+  seven-exactly =
+      exactly-first _ OnTime (λ i r. (r ≡ Missed i) × (OnTime i → ⊥))
       (λ i.
       exactly-unless (leb (finishOf i) (proposed i)) (Missed i) (λ e. omega tests) (λ e h. omega tests) (λ m n. n m))
-      (size s))
+      (size s)
 
   -- All that the checker judges: 1 to 4, then 6, then 7.
   pub checked :
@@ -105,4 +107,4 @@ module _ (s : Subjobs) (ds : List ℕ) where
       (Fit s (eqb (length ds) (size s)) × (All Meets × All OnTime))
       (λ r.
       Faulty s (eqb (length ds) (size s)) r ⊎ (Fit s (eqb (length ds) (size s)) × (Unmets r ⊎ (All Meets × Misses r))))
-  checked = exactly-or (subjobs.judged s (eqb (length ds) (size s))) conditions
+  checked = exactly-or (subjobs.judged s (eqb (length ds) (size s))) (exactly-or six-exactly seven-exactly)

@@ -1,16 +1,14 @@
 -- The place that the checker's refusal reports is below 128.
 use Prim.Native.Nat.{ℕ, _<_}
 use mathlib.Core.List.{List}
-use mathlib.Core.Path.{_≡_, refl, sym, ap, _∙_}
+use mathlib.Core.Path.{_≡_, ap}
 use native.Mathlib.Omega.{arith}
-use lib.Dec.{eqb}
-use lib.ListN.{length}
 use Rattle.lists.proofs.Cases.{split}
 use Rattle.subjobs.specs.declared.Reason.{Reason}
 use Rattle.subjobs.specs.declared.Judgement.{Judgement}
 use Rattle.subjobs.specs.declared.Judgement.the-variants as judgement
 use Rattle.subjobs.specs.Reasons.{placeOf}
-use Rattle.subjobs.specs.Sets.{Subjobs, size}
+use Rattle.subjobs.specs.Sets.{Subjobs}
 use Rattle.subjobs.specs.Judging.{orElse, ifPassed}
 use Rattle.subjobs.proofs.Exactly.{refusing}
 use Rattle.subjobs.proofs.Fit.{judged-exactly}

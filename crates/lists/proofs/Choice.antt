@@ -173,15 +173,19 @@ lex-order lt lt′ o o′ =
         test (lt k i) (λ h. no-lex lt lt′ i k o h)
         (λ h. tie-lex lt lt′ i k (alike lt o i j k (a .0) (b .0)) h ∙ alike lt′ o′ i j k f g)))
 
--- An order after another is total where the last is, among those that the first does not part.
-pub lex-total :
+-- Two that an order after another does not part, neither of the two parts.
+pub lex-neither :
     (lt lt′ : ℕ → ℕ → Bool) → Order lt
     → (i j : ℕ) → lex lt lt′ i j ≡ false → lex lt lt′ j i ≡ false
     → (lt i j ≡ false) × (lt j i ≡ false) × (lt′ i j ≡ false) × (lt′ j i ≡ false)
-lex-total lt lt′ o i j p q =
+lex-neither lt lt′ o i j p q =
     let a = lex-no lt lt′ i j p in
     let b = lex-no lt lt′ j i q in
     split (a .1) (λ f. clash f (b .0)) (λ f. split (b .1) (λ g. clash g (a .0)) (λ g. (a .0, b .0, f, g)))
+
+-- So an order after another is total where the last is.
+pub lex-total : (lt lt′ : ℕ → ℕ → Bool) → Order lt → (xs : List ℕ) → Total lt′ xs → Total (lex lt lt′) xs
+lex-total lt lt′ o xs tot i j a b p q = let w = lex-neither lt lt′ o i j p q in tot i j a b (w .2) (w .3)
 
 -- Only one is last.
 pub last-one : (lt : ℕ → ℕ → Bool) → Order lt → (xs : List ℕ) (b b′ : ℕ) → Last lt xs b → Last lt xs b′ → b ≡ b′
@@ -234,7 +238,7 @@ pub chosen-earliest : (lt : ℕ → ℕ → Bool) → Order lt → (n b i : ℕ)
 chosen-earliest lt o n b i e k h =
     split
     (chosen-before (lex lt (by (λ j. j))) (lex-order lt (by (λ j. j)) o (by-order (λ j. j))) (places n)
-    (λ u v p q a b. let w = lex-total lt (by (λ j. j)) o u v a b in let f = w .2 in let g = w .3 in omega tests)
+    (lex-total lt (by (λ j. j)) o (places n) (λ u v p q f g. omega tests))
     (sym (choose-place lt n) ∙ e) i (in-from 0 n (omega arith) (omega arith)))
     (λ q. absurd (omega arith))
     (λ q. split (lex-yes lt (by (λ j. j)) b i q) (λ y. y) (λ y. absurd (omega (arith, ltb-true b i (y .2)))))

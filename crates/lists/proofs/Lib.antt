@@ -6,4 +6,5 @@ pub mod Choice
 pub mod Renamed
 pub mod Rearranged
 pub mod Mapped
+pub mod Taken
 pub mod Searched

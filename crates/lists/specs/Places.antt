@@ -11,10 +11,14 @@
 --   Every P xs    == P holds of all of xs
 --   InOrder f xs  == f never falls along xs
 --   Nodup xs      == no place stands in xs twice
-use Prim.Native.Nat.{ℕ, zero, suc, _+_, _≤_, min, max}
+--   Rearranges ps n == ps is a rearrangement of the places of a set of n: each stands in it, once, and no other
+--   taken ps xs   == the list xs in the order of ps: at each place what xs has where ps says
+use Prim.Native.Nat.{ℕ, zero, suc, _+_, _≤_, _<_, min, max}
 use mathlib.Core.Bool.{Bool, cond, not}
-use mathlib.Core.List.{List, [], _∷_, List·Memᴰ}
+use mathlib.Core.List.{List, [], _∷_, map, List·Memᴰ}
+use mathlib.Core.Logic.{_↔_}
 use lib.Dec.{eqb}
+use lib.ListN.{getD}
 
 -- n places from i on
 unfoldable pub from : ℕ → ℕ → List ℕ
@@ -56,3 +60,9 @@ InOrder f (x ∷ xs) = Every (λ y. f x ≤ f y) xs × InOrder f xs
 abbrev pub Nodup : List ℕ → Type 0
 Nodup [] = Unit {0}
 Nodup (x ∷ xs) = (List·Memᴰ x xs → ⊥) × Nodup xs
+
+abbrev pub Rearranges : List ℕ → ℕ → Type 0
+Rearranges ps n = Nodup ps × ((i : ℕ) → List·Memᴰ i ps ↔ (i < n))
+
+abbrev pub taken : List ℕ → List ℕ → List ℕ
+taken ps xs = map (λ p. getD xs p 0) ps

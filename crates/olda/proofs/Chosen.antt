@@ -4,7 +4,7 @@ use mathlib.Core.Bool.{Bool, true, false, cond}
 use mathlib.Core.List.{List}
 use mathlib.Core.Logic.{_⊎_}
 use mathlib.Core.Option.{some}
-use mathlib.Core.Path.{_≡_, refl, sym, ap, _∙_}
+use mathlib.Core.Path.{_≡_, sym, ap, _∙_}
 use native.Mathlib.Numerals.{add-one}
 use native.Mathlib.Omega.{arith}
 use borrow.Author.Tests.{lt-ltb, le-ltb}
@@ -15,8 +15,9 @@ use Rattle.lists.specs.Order.{reversed, ahead, choose}
 use Rattle.lists.proofs.Cases.{split}
 use Rattle.lists.proofs.Members.{every-at, from-length}
 use Rattle.lists.proofs.Mapped.{places-at}
+use Rattle.subjobs.specs.Sets.{byPair}
 use Rattle.subjobs.specs.Terms.{bySlack}
-use Rattle.olda.specs.Parts.{at, limits, lowerBy, Choosing, Chosen, Reporting, Tightest}
+use Rattle.olda.specs.Parts.{at, limits, lowerBy, Known, Choosing, Chosen, Reporting, Tightest}
 
 -- Of the first i of xs p is chosen: against those left it is the choice of all.
 pub record Ahead (lt : ℕ → ℕ → Bool) (xs : List ℕ) (p i : ℕ) : Type 0 where
@@ -44,60 +45,68 @@ module _ (lt : ℕ → ℕ → Bool) (xs : List ℕ) where
     unfolding ahead
     ahead-all h = rw (drop-of-length-le xs h) at (a .same)
 
--- The order of raised bounds: the greater bound, or an equal one and the later place.
-module _ (us : List ℕ) (p q : ℕ) where
-  lower-yes : (at us p < at us q) ⊎ ((at us p ≡ at us q) × (p < q)) → lowerBy us p q ≡ true
-  lower-yes h =
-      split h
-      (λ l. rw (lt-ltb (at us p) (at us q) l))
-      (λ l. rw (le-ltb (at us p) (at us q) (omega arith), le-ltb (at us q) (at us p) (omega arith), lt-ltb p q (l .1)))
+-- The order of raised bounds: the greater bound, or an equal one and the pair behind.
+module _ (us js ks : List ℕ) (p q : ℕ) where
+  lower-more : at us p < at us q → lowerBy us js ks p q ≡ true
+  lower-more l = rw (lt-ltb (at us p) (at us q) l)
 
-  lower-no : (at us q < at us p) ⊎ ((at us p ≡ at us q) × (q ≤ p)) → lowerBy us p q ≡ false
-  lower-no h =
-      split h
-      (λ l. rw (le-ltb (at us p) (at us q) (omega arith), lt-ltb (at us q) (at us p) l))
-      (λ l. rw (le-ltb (at us p) (at us q) (omega arith), le-ltb (at us q) (at us p) (omega arith), le-ltb p q (l .1)))
+  lower-less : at us q < at us p → lowerBy us js ks p q ≡ false
+  lower-less l = rw (le-ltb (at us p) (at us q) (omega arith), lt-ltb (at us q) (at us p) l)
+
+  lower-same : at us p ≡ at us q → lowerBy us js ks p q ≡ byPair (at js) (at ks) p q
+  lower-same e = rw (le-ltb (at us p) (at us q) (omega arith), le-ltb (at us q) (at us p) (omega arith))
 
 -- The base sub-job of the first i of xs stands at k, and its bound is `top`.
-pub record Topped (xs us : List ℕ) (k top i : ℕ) : Type 0 where
-  pub asked : Choosing xs us
+pub record Topped (xs us js ks : List ℕ) (k top i : ℕ) : Type 0 where
+  pub asked : Choosing xs us js ks
   pub inside : k < length xs
   pub bound : top ≡ at us (at xs k)
-  pub best : Ahead (reversed (lowerBy us)) xs (at xs k) i
+  pub best : Ahead (reversed (lowerBy us js ks)) xs (at xs k) i
 
-module _ {xs us : List ℕ} (a : Choosing xs us) {p : ℕ} (e : p ≡ at xs 0) where
+module _ {xs us js ks : List ℕ} (a : Choosing xs us js ks) {p : ℕ} (e : p ≡ at xs 0) where
   pub topped-first : p < length us
-  topped-first = rw e (every-at (λ q. q < length us) xs 0 (a .some) (a .inside))
+  topped-first = rw e (every-at (Known us js ks) xs 0 (a .some) (a .each) .bound)
 
-  pub topped-one : Topped xs us 0 (at us p) 1
+  pub topped-one : Topped xs us js ks 0 (at us p) 1
   topped-one =
-      record { asked = a; inside = a .some; bound = ap (at us) e; best = ahead-first (reversed (lowerBy us)) xs (a .some) }
+      record { asked = a; inside = a .some; bound = ap (at us) e; best = ahead-first (reversed (lowerBy us js ks)) xs (a .some) }
 
-module _ {xs us : List ℕ} {k top i : ℕ} (t : Topped xs us k top i) where
+module _ {xs us js ks : List ℕ} {k top i : ℕ} (t : Topped xs us js ks k top i) where
+  -- The place found so far and the next one are known.
+  pub topped-held : {q : ℕ} → q ≡ at xs k → Known us js ks q
+  topped-held e = rw e (every-at (Known us js ks) xs k (t .inside) (t .asked .each))
+
   module _ {p : ℕ} (h : i < length xs) (e : p ≡ at xs i) where
-    pub topped-known : p < length us
-    topped-known = rw e (every-at (λ q. q < length us) xs i h (t .asked .inside))
+    pub topped-next : Known us js ks p
+    topped-next = rw e (every-at (Known us js ks) xs i h (t .asked .each))
 
-    pub topped-new : (top < at us p) ⊎ ((top ≡ at us p) × (at xs k < at xs i)) → Topped xs us i (at us p) (i + 1)
+    pub topped-bound : p < length us
+    topped-bound = topped-next .bound
+
+    pub topped-new :
+        (top < at us p) ⊎ ((top ≡ at us p) × (byPair (at js) (at ks) (at xs k) p ≡ true)) → Topped xs us js ks i (at us p) (i + 1)
     topped-new w =
         record {
           asked = t .asked;
           inside = h;
           bound = ap (at us) e;
-          best = ahead-new (reversed (lowerBy us)) xs (t .best) h (lower-yes us (at xs k) (at xs i) (rw (t .bound, e) at w));
+          best = ahead-new (reversed (lowerBy us js ks)) xs (t .best) h
+              (split (rw (t .bound, e) at w) (λ l. lower-more us js ks _ _ l) (λ l. lower-same us js ks _ _ (l .0) ∙ l .1));
         }
 
-    pub topped-old : (at us p < top) ⊎ ((top ≡ at us p) × (at xs i ≤ at xs k)) → Topped xs us k top (i + 1)
+    pub topped-old :
+        (at us p < top) ⊎ ((top ≡ at us p) × (byPair (at js) (at ks) (at xs k) p ≡ false)) → Topped xs us js ks k top (i + 1)
     topped-old w =
         record {
           asked = t .asked;
           inside = t .inside;
           bound = t .bound;
-          best = ahead-old (reversed (lowerBy us)) xs (t .best) h (lower-no us (at xs k) (at xs i) (rw (t .bound, e) at w));
+          best = ahead-old (reversed (lowerBy us js ks)) xs (t .best) h
+              (split (rw (t .bound, e) at w) (λ l. lower-less us js ks _ _ l) (λ l. lower-same us js ks _ _ (l .0) ∙ l .1));
         }
 
-  pub topped-all : length xs ≤ i → Chosen xs us k
-  topped-all h = record { inside = t .inside; last = ahead-all (reversed (lowerBy us)) xs (t .best) h }
+  pub topped-all : length xs ≤ i → Chosen xs us js ks k
+  topped-all h = record { inside = t .inside; last = ahead-all (reversed (lowerBy us js ks)) xs (t .best) h }
 
 -- The least slack of the first i places is that of p.
 pub record Tight (ds zs ls : List ℕ) (p i : ℕ) : Type 0 where

@@ -67,12 +67,14 @@ module _ {s : Subjobs} {out us ls os es : List ℕ} (m : Room s out us ls os es)
         {us′ : List ℕ}
         → size s ≤ length us′
         → size s ≤ length os′
-        → Placing (s .releases) (s .executions) us′ os′ es ls (length (s .releases))
+        → Placing (s .jobs) (s .subtasks) (s .releases) (s .executions) us′ os′ es ls (length (s .releases))
     room-placing u o =
         let l = m .fit .lengths .releases in
         let n = length (s .releases) in
         record {
           size = omega (arith, m .fit .few);
+          jobs = omega arith;
+          subtasks = omega (arith, m .fit .lengths .subtasks);
           bounds = omega arith;
           local = omega (arith, m .local);
           order = omega arith;
@@ -86,13 +88,13 @@ module _ {s : Subjobs} {out us ls os es : List ℕ} (m : Room s out us ls os es)
         {us′ ls′ : List ℕ}
         {r : Judgement}
         (up : Raised (terms s) (length (s .deadlines)) us′)
-        (p : Placed (s .releases) (s .executions) us′ os′ ls (length (s .releases)) r ls′)
+        (p : Placed (s .jobs) (s .subtasks) (s .releases) (s .executions) us′ os′ ls (length (s .releases)) r ls′)
       where
         raised-all : Raised (terms s) (size s) us′
         raised-all i h = up i (omega (arith, m .fit .lengths .deadlines))
 
         -- The steps are the method's,
-        by-method : stepped (s .releases) (s .executions) us′ os′ ls (length (s .releases)) ≡ method s
+        by-method : stepped (s .jobs) (s .subtasks) (s .releases) (s .executions) us′ os′ ls (length (s .releases)) ≡ method s
         unfolding method
         by-method =
             let zeros = ap (take (size s)) (m .zeros) ∙ take-replicate (size s) (length ls) 0 (m .local) in
@@ -100,13 +102,13 @@ module _ {s : Subjobs} {out us ls os es : List ℕ} (m : Room s out us ls os es)
             (raised-steps s (size s) us′ raised-all (size s) (inOrder (release s) (places (size s))) (replicate (size s) 0) (in-order-below (release s) (size s)))
 
         -- and a bound that is refused is the set's.
-        by-bounds : (w : Outcome) → method s ≡ w → ruling (raised (s .releases) (s .executions) us′) w ≡ ruling (terms s) w
+        by-bounds : (w : Outcome) → method s ≡ w → ruling (raised (s .jobs) (s .subtasks) (s .releases) (s .executions) us′) w ≡ ruling (terms s) w
         by-bounds (placed ds) e = refl
         by-bounds (stuck q k) e =
             ap (λ (z : ℤ). Refused (Late q k z)) (raised-signed s (size s) us′ raised-all q (fit-inside s (m .fit) q k e))
 
         told : r ≡ ruling (terms s) (method s)
-        told = p .ruled ∙ ap (ruling (raised (s .releases) (s .executions) us′)) by-method ∙ by-bounds (method s) refl
+        told = p .ruled ∙ ap (ruling (raised (s .jobs) (s .subtasks) (s .releases) (s .executions) us′)) by-method ∙ by-bounds (method s) refl
 
         pub room-refused : {q : Reason} → r ≡ Refused q → Places s out (Refused q) out
         room-refused {q} e =

@@ -19,7 +19,7 @@ use Rattle.lists.proofs.Choice.{chosen-in}
 use Rattle.subjobs.specs.Sets.{Subjobs, deadline, withheld, byBound}
 use Rattle.subjobs.specs.Terms.{terms, lower, bound}
 use Rattle.subjobs.proofs.Differences.{sub-same}
-use Rattle.rules.specs.Method.{placed, best, base, steps}
+use Rattle.rules.specs.Method.{placed, steps}
 use Rattle.rules.proofs.AllPlaces.{every-base}
 use Rattle.rules.proofs.Rules.{bestOf, baseOf}
 use Rattle.olda.specs.Parts.{at, limits, raise, lowerBy, raised, Raised, Raising}
@@ -84,7 +84,7 @@ module _ (s : Subjobs) (n : ℕ) (us : List ℕ) (up : Raised (terms s) n us) wh
       let q = up j b in
       same-ltb (deadline s i + withheld s j) (deadline s j + withheld s i) (at us i) (at us j) (λ h. omega arith) (λ h. omega arith)
 
-  raised-lower : (i j : ℕ) → i < n → j < n → lower s i j ≡ lowerBy us i j
+  raised-lower : (i j : ℕ) → i < n → j < n → lower s i j ≡ lowerBy us (s .jobs) (s .subtasks) i j
   raised-lower i j a b = rw (raised-bound i j a b, raised-bound j i b a)
 
   raised-met : (m b : ℕ) → b < n → leb (m + withheld s b) (deadline s b) ≡ leb (m + raise) (at us b)
@@ -93,21 +93,21 @@ module _ (s : Subjobs) (n : ℕ) (us : List ℕ) (up : Raised (terms s) n us) wh
       same-leb (m + withheld s b) (deadline s b) (m + raise) (at us b) (λ l. omega arith) (λ l. omega arith)
 
   -- What is signed in a refusal is the upper bound.
-  pub raised-signed : (p : ℕ) → p < n → bound (raised (s .releases) (s .executions) us) p ≡ bound (terms s) p
+  pub raised-signed : (p : ℕ) → p < n → bound (raised (s .jobs) (s .subtasks) (s .releases) (s .executions) us) p ≡ bound (terms s) p
   raised-signed p h = let b = up p h in sub-same (at us p) raise (deadline s p) (withheld s p) (omega arith)
 
   pub raised-steps :
       (m : ℕ) (xs ds : List ℕ)
       → Every (λ i. i < n) xs
-      → steps (raised (s .releases) (s .executions) us) m xs ds ≡ steps (terms s) m xs ds
+      → steps (raised (s .jobs) (s .subtasks) (s .releases) (s .executions) us) m xs ds ≡ steps (terms s) m xs ds
   unfolding steps
   raised-steps zero xs ds e = refl
   raised-steps (suc m) xs ds e =
       let ys = baseOf (terms s) xs in
       let eb = every-base (λ i. i < n) (at (s .releases)) (at (s .executions)) xs e in
-      rw (choose-same n (reversed (lower s)) (reversed (lowerBy us)) (λ i j a b. raised-lower j i b a) ys eb)
-      (given-same (choose (reversed (lowerBy us)) ys) (placed ds) _ _
+      rw (choose-same n (reversed (lower s)) (reversed (lowerBy us (s .jobs) (s .subtasks))) (λ i j a b. raised-lower j i b a) ys eb)
+      (given-same (choose (reversed (lowerBy us (s .jobs) (s .subtasks))) ys) (placed ds) _ _
       (λ b q.
-      let h = every-in (λ i. i < n) ys eb (chosen-in (reversed (lowerBy us)) ys q) in
+      let h = every-in (λ i. i < n) ys eb (chosen-in (reversed (lowerBy us (s .jobs) (s .subtasks))) ys q) in
       let rest = in-every (λ i. i < n) (without b xs) (λ i k. every-in (λ j. j < n) xs e (without-in b xs k .0)) in
       rw (raised-met (bestOf (terms s) xs) b h, raised-steps m (without b xs) (set ds b (bestOf (terms s) xs)) rest)))

@@ -17,13 +17,13 @@ use Rattle.subjobs.specs.declared.Reason.the-variants.{Late}
 use Rattle.subjobs.specs.declared.Judgement.{Judgement}
 use Rattle.subjobs.specs.declared.Judgement.the-variants as judged
 use Rattle.subjobs.specs.Reasons.{placeOf}
-use Rattle.subjobs.specs.Sets.{Subjobs, size, execution}
+use Rattle.subjobs.specs.Sets.{Subjobs, size}
 use Rattle.subjobs.specs.Terms.{terms, bound, bySlack}
 use Rattle.subjobs.specs.Judging.{judgement, ifPassed}
 use Rattle.subjobs.proofs.Fit.{Fit, fit}
 use Rattle.subjobs.proofs.Reported.{judged-within}
 use Rattle.rules.specs.Method.{Outcome, placed, stuck, method}
-use Rattle.rules.proofs.Rules.{Ones, refused-in}
+use Rattle.rules.proofs.Rules.{refused-in}
 use Rattle.rules.proofs.Obeys.{method-placed, method-stuck}
 use Rattle.olda.specs.declared.Answer.the-variants.{Refused}
 use Rattle.olda.specs.Answers.{report, outcome, answer, written, results}
@@ -37,20 +37,13 @@ never-refused s d r e =
 
 module _ (s : Subjobs) where
   module _ {others : Bool} (f : Fit s others) where
-    -- A set that passes refusal 3 has executions of at least 1.
-    fit-ones : Ones (execution s) (places (size s))
-    fit-ones i m = f .ranges i (places-in (size s) i m) .some
-
     -- The method gives as many deadlines as there are sub-jobs, or gets stuck at one of them.
     pub fit-length : (out : List ℕ) → length out ≡ size s → (w : Outcome) → method s ≡ w → length (written w out) ≡ length out
     fit-length out l (stuck p m) e = refl
-    fit-length out l (placed ds) e = method-placed s fit-ones ds .0 e .0 ∙ sym l
+    fit-length out l (placed ds) e = method-placed s f ds .0 e .0 ∙ sym l
 
     pub fit-inside : (p m : ℕ) → method s ≡ stuck p m → p < size s
-    fit-inside p m e = places-in (size s) p (refused-in (terms s) (places (size s)) (method-stuck s fit-ones p m .0 e))
-
-  pub passed-ones : (others : Bool) → judgement s others ≡ judged.Passed → Ones (execution s) (places (size s))
-  passed-ones others e = fit-ones (fit s others e)
+    fit-inside p m e = places-in (size s) p (refused-in (terms s) (places (size s)) (method-stuck s f p m .0 e))
 
   pub results-length : (out : List ℕ) → length (results s out) ≡ length out
   unfolding results

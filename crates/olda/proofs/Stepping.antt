@@ -13,7 +13,7 @@ use lib.ListN.{length, take, drop, set, length-set, length-take, length-drop}
 use lib.Seq.{length-take-le, getD-take, getD-drop, take-set-lt}
 use mir.Syntax.{w32, w64}
 use mir.Val.{Fits}
-use Rattle.lists.specs.Places.{Every, without}
+use Rattle.lists.specs.Places.{without}
 use Rattle.lists.specs.Order.{reversed, choose}
 use Rattle.lists.proofs.Mapped.{part-within}
 use Rattle.lists.proofs.Members.{every-at, every-in, in-every, every-more, every-drop, in-at, without-in, nodup-filter}
@@ -22,7 +22,7 @@ use Rattle.subjobs.specs.declared.Judgement.the-variants as judged
 use Rattle.subjobs.specs.declared.Reason.the-variants.{Late}
 use Rattle.subjobs.specs.Terms.{Terms}
 use Rattle.rules.specs.Method.{stuck, best, base, steps}
-use Rattle.olda.specs.Parts.{at, completes, completions, raise, lowerBy, raised, Ranged, Tail, Tails, Greatest, Choosing, Chosen, Leaving, Left, Placing, stepped, Placed}
+use Rattle.olda.specs.Parts.{at, completes, completions, raise, lowerBy, raised, Ranged, Tail, Tails, Greatest, Known, Choosing, Chosen, Leaving, Left, Placing, stepped, Placed}
 use Rattle.olda.proofs.Adding.{tail-most, completions-length, completions-at}
 use Rattle.olda.proofs.Held.{length-rest, held-enough, held-rest, greatest-tail}
 use Rattle.olda.proofs.Shifts.{without-at}
@@ -50,12 +50,12 @@ module _
     step-more h = rw (← one-more, job, ← isBest, le-leb _ _ h)
 
 -- n sub-jobs are left of the first `all` of `old`, in the front of os.
-pub record Stepping (rs cs us old kept : List ℕ) (all : ℕ) (os es ls : List ℕ) (n : ℕ) : Type 0 where
-  pub asked : Placing rs cs us os es ls n
+pub record Stepping (js ks rs cs us old kept : List ℕ) (all : ℕ) (os es ls : List ℕ) (n : ℕ) : Type 0 where
+  pub asked : Placing js ks rs cs us os es ls n
   pub held : take n es ≡ completions (at rs) (at cs) (take n os)
-  pub same : stepped rs cs us os ls n ≡ stepped rs cs us old kept all
+  pub same : stepped js ks rs cs us os ls n ≡ stepped js ks rs cs us old kept all
 
-module _ {rs cs us os es ls : List ℕ} {n : ℕ} (a : Placing rs cs us os es ls n) where
+module _ {js ks rs cs us os es ls : List ℕ} {n : ℕ} (a : Placing js ks rs cs us os es ls n) where
   pub stepping-tails : Tails rs cs (take n os) es
   stepping-tails =
       let l = length-take-le n os (a .order) in
@@ -64,11 +64,13 @@ module _ {rs cs us os es ls : List ℕ} {n : ℕ} (a : Placing rs cs us os es ls
   pub stepping-start :
       {es′ : List ℕ}
       → take (length (take n os)) es′ ≡ completions (at rs) (at cs) (take n os)
-      → Stepping rs cs us os ls n os es′ ls n
+      → Stepping js ks rs cs us os ls n os es′ ls n
   stepping-start {es′} e =
       let l = length-take-le n os (a .order) in
       record {
         asked = record {
+          jobs = a .jobs;
+          subtasks = a .subtasks;
           bounds = a .bounds;
           local = a .local;
           size = a .size;
@@ -82,7 +84,7 @@ module _ {rs cs us os es ls : List ℕ} {n : ℕ} (a : Placing rs cs us os es ls
         same = refl;
       }
 
-module _ {rs cs us old kept : List ℕ} {all : ℕ} {os es ls : List ℕ} {n : ℕ} (s : Stepping rs cs us old kept all os es ls n) where
+module _ {js ks rs cs us old kept : List ℕ} {all : ℕ} {os es ls : List ℕ} {n : ℕ} (s : Stepping js ks rs cs us old kept all os es ls n) where
   long : length (take n os) ≡ n
   long = length-take-le n os (s .asked .order)
 
@@ -90,7 +92,7 @@ module _ {rs cs us old kept : List ℕ} {all : ℕ} {os es ls : List ℕ} {n : �
   stepping-some o = omega (arith, length-take-le n es (s .asked .ends))
 
   -- All are placed.
-  pub stepping-all : n ≤ 0 → Placed rs cs us old kept all judged.Passed ls
+  pub stepping-all : n ≤ 0 → Placed js ks rs cs us old kept all judged.Passed ls
   unfolding steps
   stepping-all h =
       let z : n ≡ 0 = omega arith in
@@ -146,15 +148,23 @@ module _ {rs cs us old kept : List ℕ} {all : ℕ} {os es ls : List ℕ} {n : �
     part : take (n - k) (drop k os) ≡ drop k (take n os)
     part = part-within os n k (omega (arith, base-inside))
 
-    pub base-choosing : Choosing (take (n - k) (drop k os)) us
+    known : (p : ℕ) → Ranged rs cs p → Known us js ks p
+    known p q =
+        record {
+          bound = omega (arith, q .inside, s .asked .bounds);
+          job = omega (arith, q .inside, s .asked .jobs);
+          subtask = omega (arith, q .inside, s .asked .subtasks);
+        }
+
+    pub base-choosing : Choosing (take (n - k) (drop k os)) us js ks
     base-choosing =
         rw part record {
           some = tail .some;
-          inside = every-more (Ranged rs cs) (λ p. p < length us) (λ p q. omega (arith, q .inside, s .asked .bounds)) (drop k (take n os)) (tail .each);
+          each = every-more (Ranged rs cs) (Known us js ks) known (drop k (take n os)) (tail .each);
         }
 
     -- The base sub-job stands at k + j, and its place is p.
-    module _ {j : ℕ} (c : Chosen (take (n - k) (drop k os)) us j) where
+    module _ {j : ℕ} (c : Chosen (take (n - k) (drop k os)) us js ks j) where
       job-inside : k + j < n
       job-inside = omega (arith, c .inside, ap length part, length-drop k (take n os), long)
 
@@ -186,7 +196,7 @@ module _ {rs cs us old kept : List ℕ} {all : ℕ} {os es ls : List ℕ} {n : �
         pub job-execution : p < length cs
         job-execution = ranged .known
 
-        is-job : choose (reversed (lowerBy us)) (base (at rs) (at cs) (take n os)) ≡ some p
+        is-job : choose (reversed (lowerBy us js ks)) (base (at rs) (at cs) (take n os)) ≡ some p
         is-job =
             rw (← is-base .1, ← part)
             (c .last ∙ ap some (getD-take (n - k) (drop k os) j 0 (omega (arith, job-inside)) ∙ getD-drop k os j 0 ∙ sym e))
@@ -209,10 +219,10 @@ module _ {rs cs us old kept : List ℕ} {all : ℕ} {os es ls : List ℕ} {n : �
             → 0 < n
             → at us p < at es k + raise
             → b ≡ subℕ (at us p) raise
-            → Placed rs cs us old kept all (judged.Refused (Late p (at es k) b)) ls
+            → Placed js ks rs cs us old kept all (judged.Refused (Late p (at es k) b)) ls
         stepping-late o h q =
             let e =
-            sym (s .same) ∙ step-late (raised rs cs us) (n - 1) n (take n os) (take (length rs) ls) p (at es k) (omega arith) is-job isBest h
+            sym (s .same) ∙ step-late (raised js ks rs cs us) (n - 1) n (take n os) (take (length rs) ls) p (at es k) (omega arith) is-job isBest h
             in
             record { ruled = rw (e, q); list = rw e }
 
@@ -222,7 +232,7 @@ module _ {rs cs us old kept : List ℕ} {all : ℕ} {os es ls : List ℕ} {n : �
             → 0 < n
             → at es k + raise ≤ at us p
             → Left os es n (k + j) (at cs p) os′ es′
-            → Stepping rs cs us old kept all os′ es′ (set ls p (at es k)) (n - 1)
+            → Stepping js ks rs cs us old kept all os′ es′ (set ls p (at es k)) (n - 1)
         stepping-next {os′} {es′} o h l =
             let xs = take n os in
             let i : k + j < length xs = omega (arith, job-inside, long) in
@@ -238,6 +248,8 @@ module _ {rs cs us old kept : List ℕ} {all : ℕ} {os es ls : List ℕ} {n : �
             in
             record {
               asked = record {
+                jobs = s .asked .jobs;
+                subtasks = s .asked .subtasks;
                 bounds = s .asked .bounds;
                 local = simp length-set (s .asked .local);
                 size = s .asked .size;
@@ -249,5 +261,5 @@ module _ {rs cs us old kept : List ℕ} {all : ℕ} {os es ls : List ℕ} {n : �
               };
               held = held;
               same = rw (w, take-set-lt (length rs) ls p (at es k) (ranged .inside))
-                  (sym (step-more (raised rs cs us) (n - 1) n xs (take (length rs) ls) p (at es k) (omega arith) is-job isBest h) ∙ s .same);
+                  (sym (step-more (raised js ks rs cs us) (n - 1) n xs (take (length rs) ls) p (at es k) (omega arith) is-job isBest h) ∙ s .same);
             }

@@ -9,7 +9,8 @@
 --   completions r c xs  == the completion of each tail of xs, that of all of xs first
 --   raise               == what upper bounds are raised by, so that none is negative
 --   limits ds zs        == what the rules read of deadlines and critical times alone
---   raised rs cs us     == what they read of releases, executions and raised bounds: nothing but the raise is withheld
+--   lowerBy us js ks    == the order of the base sub-job, of raised bounds and pairs
+--   raised js ks rs cs us == what they read of pairs, releases, executions and raised bounds: nothing but the raise is withheld
 --   Raised T n us       == us are the upper bounds of the first n places, raised
 --   ruling T w          == what an outcome says of a set: it passes, or the reason why not
 --   reported T n d      == the report of n sub-jobs with the local deadlines d
@@ -27,7 +28,7 @@ use Rattle.lists.specs.Order.{by, lex, reversed, choose, given}
 use Rattle.subjobs.specs.declared.Judgement.{Judgement}
 use Rattle.subjobs.specs.declared.Judgement.the-variants as judged
 use Rattle.subjobs.specs.declared.Reason.the-variants.{Late}
-use Rattle.subjobs.specs.Sets.{Subjobs, subjobs, size}
+use Rattle.subjobs.specs.Sets.{Subjobs, subjobs, size, byPair}
 use Rattle.subjobs.specs.Terms.{Terms, terms, bound, slack, bySlack}
 use Rattle.subjobs.specs.Faults.{Fit}
 use Rattle.rules.specs.Method.{Outcome, placed, stuck, inOrder, steps, method}
@@ -63,13 +64,13 @@ raise = 1_000_000_000
 abbrev pub limits : (ds zs : List ℕ) → Terms
 limits ds zs = terms (subjobs [] [] [] [] ds zs)
 
--- The order of the base sub-job by raised bounds: the greater bound, of several the latest in the list.
-abbrev pub lowerBy : List ℕ → ℕ → ℕ → Bool
-lowerBy us = lex (by (at us)) (by (λ i. i))
+-- The order of the base sub-job by raised bounds.
+abbrev pub lowerBy : (us js ks : List ℕ) → ℕ → ℕ → Bool
+lowerBy us js ks = lex (by (at us)) (byPair (at js) (at ks))
 
-abbrev pub raised : (rs cs us : List ℕ) → Terms
-raised rs cs us =
-    record { release = at rs; execution = at cs; deadline = at us; withheld = λ i. raise; lower = lowerBy us }
+abbrev pub raised : (js ks rs cs us : List ℕ) → Terms
+raised js ks rs cs us =
+    record { release = at rs; execution = at cs; deadline = at us; withheld = λ i. raise; lower = lowerBy us js ks }
 
 abbrev pub Raised : Terms → ℕ → List ℕ → Type 0
 Raised T n us = (i : ℕ) → i < n → at us i + T .withheld i ≡ T .deadline i + raise
@@ -126,14 +127,20 @@ pub record Greatest (ns : List ℕ) (k : ℕ) : Type 0 where
   pub most : (j : ℕ) → j < length ns → at ns j ≤ at ns k
   pub latest : (j : ℕ) → k < j → j < length ns → at ns j < at ns k
 
--- The base sub-job is looked for among the places xs of the base subset, and stands at k of them.
-pub record Choosing (xs us : List ℕ) : Type 0 where
-  pub some : 0 < length xs
-  pub inside : Every (λ p. p < length us) xs
+-- A place that has a bound, a job and a subtask.
+pub record Known (us js ks : List ℕ) (p : ℕ) : Type 0 where
+  pub bound : p < length us
+  pub job : p < length js
+  pub subtask : p < length ks
 
-pub record Chosen (xs us : List ℕ) (k : ℕ) : Type 0 where
+-- The base sub-job is looked for among the places xs of the base subset, and stands at k of them.
+pub record Choosing (xs us js ks : List ℕ) : Type 0 where
+  pub some : 0 < length xs
+  pub each : Every (Known us js ks) xs
+
+pub record Chosen (xs us js ks : List ℕ) (k : ℕ) : Type 0 where
   pub inside : k < length xs
-  pub last : choose (reversed (lowerBy us)) xs ≡ some (at xs k)
+  pub last : choose (reversed (lowerBy us js ks)) xs ≡ some (at xs k)
 
 -- The sub-job at k of the n that are left leaves, and takes its execution x off the tails that it was in.
 pub record Leaving (os es : List ℕ) (n k x : ℕ) : Type 0 where
@@ -147,8 +154,10 @@ pub record Left (os es : List ℕ) (n k x : ℕ) (os′ es′ : List ℕ) : Type
   pub ends : take (n - 1) es′ ≡ rest k (take n (lessened k x es))
 
 -- The steps are taken on the first n places of os, with room for the completions and for the local deadlines.
-pub record Placing (rs cs us os es ls : List ℕ) (n : ℕ) : Type 0 where
+pub record Placing (js ks rs cs us os es ls : List ℕ) (n : ℕ) : Type 0 where
   pub size : length rs ≤ 128
+  pub jobs : length rs ≤ length js
+  pub subtasks : length rs ≤ length ks
   pub bounds : length rs ≤ length us
   pub local : length rs ≤ length ls
   pub order : n ≤ length os
@@ -158,12 +167,12 @@ pub record Placing (rs cs us os es ls : List ℕ) (n : ℕ) : Type 0 where
   pub once : Nodup (take n os)
 
 -- They are told as r, and if all are placed the list holds their deadlines.
-abbrev pub stepped : (rs cs us os ls : List ℕ) → ℕ → Outcome
-stepped rs cs us os ls n = steps (raised rs cs us) n (take n os) (take (length rs) ls)
+abbrev pub stepped : (js ks rs cs us os ls : List ℕ) → ℕ → Outcome
+stepped js ks rs cs us os ls n = steps (raised js ks rs cs us) n (take n os) (take (length rs) ls)
 
-pub record Placed (rs cs us os ls : List ℕ) (n : ℕ) (r : Judgement) (ls′ : List ℕ) : Type 0 where
-  pub ruled : r ≡ ruling (raised rs cs us) (stepped rs cs us os ls n)
-  pub list : take (length rs) ls′ ≡ written (stepped rs cs us os ls n) (take (length rs) ls′)
+pub record Placed (js ks rs cs us os ls : List ℕ) (n : ℕ) (r : Judgement) (ls′ : List ℕ) : Type 0 where
+  pub ruled : r ≡ ruling (raised js ks rs cs us) (stepped js ks rs cs us os ls n)
+  pub list : take (length rs) ls′ ≡ written (stepped js ks rs cs us os ls n) (take (length rs) ls′)
 
 -- A set that fits, with a result list as long as it is, is placed in room that is lent.
 abbrev pub Fits : Subjobs → List ℕ → Type 0

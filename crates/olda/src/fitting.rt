@@ -1,5 +1,4 @@
-// The assignment of a set that fits, that is, one that passes refusals 1 to 4. The set is handed on whole, by its six
-// lists; jobs and subtasks are there for a tie rule that reads them (order 1), which today's does not.
+// The assignment of a set that fits, that is, one that passes refusals 1 to 4.
 ghost use Prim.Native.Nat.{_≤_};
 ghost use mathlib.Core.Path.{_≡_};
 ghost use lib.ListN.{length, take};
@@ -46,7 +45,17 @@ fn place_in(
     raise(deadlines, criticals, bounds);
     in_order(releases, order);
     let count = releases.len();
-    let judgement = place_all(releases, executions, bounds, order, ends, local, count);
+    let judgement = place_all(
+        jobs,
+        subtasks,
+        releases,
+        executions,
+        bounds,
+        order,
+        ends,
+        local,
+        count,
+    );
     if let Judgement::Refused(reason) = judgement {
         return Judgement::Refused(reason);
     }

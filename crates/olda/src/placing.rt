@@ -49,6 +49,8 @@ fn take_out(order: &mut [u32], ends: &mut [u32], n: usize, k: usize, execution: 
 // The steps over the first `count` sub-jobs of `order`, whose places stand there in release order. The deadlines go into
 // `local`, each at its place.
 pub(crate) fn place_all(
+    jobs: &[u32],
+    subtasks: &[u32],
     releases: &[u32],
     executions: &[u32],
     bounds: &[u32],
@@ -57,16 +59,17 @@ pub(crate) fn place_all(
     local: &mut [u32],
     count: usize,
 ) -> Judgement
-    requires { ⌜ Placing (now releases) (now executions) (now bounds) (now order) (now ends) (now local) count ⌝ }
-    ensures { λ r. ⌜ Placed (now (releases .entry)) (now (executions .entry)) (now (bounds .entry))
-        (now (order .entry)) (now (local .entry)) count r (now (local .exit)) ⌝ }
+    requires { ⌜ Placing (now jobs) (now subtasks) (now releases) (now executions) (now bounds)
+        (now order) (now ends) (now local) count ⌝ }
+    ensures { λ r. ⌜ Placed (now (jobs .entry)) (now (subtasks .entry)) (now (releases .entry)) (now (executions .entry))
+        (now (bounds .entry)) (now (order .entry)) (now (local .entry)) count r (now (local .exit)) ⌝ }
 {
     let mut left = count;
     completions(&order[..left], releases, executions, ends);
     while 0 < left {
         let start = base_tail(&ends[..left]);
         let completion = ends[start];
-        let at = start + base_job(&order[start..left], bounds);
+        let at = start + base_job(&order[start..left], bounds, jobs, subtasks);
         let place = index(order[at]);
         if bounds[place] < completion + RAISE {
             return Judgement::Refused(Reason::Late {

@@ -1,49 +1,43 @@
 -- What is promised of `assign` holds: its answers are those of RULES, by the laws of the rules and of refusals 1 to 4.
-use Prim.Native.Nat.{ℕ, _+_, _<_}
-use mathlib.Core.Bool.{Bool, true, false}
-use mathlib.Core.List.{List, [], _∷_, List·Memᴰ}
-use mathlib.Core.Logic.{_≢_}
-use mathlib.Core.Option.{none, some}
+use Prim.Native.Nat.{ℕ, _+_}
+use mathlib.Core.Bool.{true}
+use mathlib.Core.List.{List, [], _∷_}
+use mathlib.Core.Logic.{inl, inr}
+use mathlib.Core.Option.{some}
 use mathlib.Core.Path.{_≡_, refl, sym, ap, _∙_}
 use native.Mathlib.Omega.{arith}
-use lib.Dec.{ltb, eqb}
+use lib.Dec.{ltb}
 use lib.IntN.{ℤ, pos}
-use lib.ListN.{length, getD}
+use lib.ListN.{length}
 use lib.Signed.{ltZ}
 use Rattle.lists.specs.Places.{places, from}
 use Rattle.lists.specs.Order.{choose}
 use Rattle.lists.proofs.Cases.{split, test, clash, tests}
 use Rattle.lists.proofs.Members.{in-nil, in-places, places-in, places-nil}
 use Rattle.lists.proofs.Choice.{choose-cases, chosen-in, chosen-earliest}
-use Rattle.subjobs.specs.declared.Judgement.{Judgement}
 use Rattle.subjobs.specs.declared.Judgement.the-variants as judged
 use Rattle.subjobs.specs.declared.Reason.{Reason}
 use Rattle.subjobs.specs.declared.Reason.the-variants.{Late}
-use Rattle.subjobs.specs.Reasons as reasons
-use Rattle.subjobs.specs.Sets.{Subjobs, size, execution}
-use Rattle.subjobs.specs.Terms.{terms, bound, slack, bySlack}
+use Rattle.subjobs.specs.Sets.{Subjobs, size}
+use Rattle.subjobs.specs.Terms.{terms, bound, slack, bySlack, lower}
 use Rattle.subjobs.specs.Judging.{judgement}
 use Rattle.subjobs.specs.Faults.{Fit}
-use Rattle.subjobs.proofs.Fit.{fit, fit-passes}
-use Rattle.subjobs.proofs.Bounds.{bound-order, bound-less, bound-met, slack-less, lower-order}
+use Rattle.subjobs.proofs.Fit.{fit-passes}
+use Rattle.subjobs.proofs.Bounds.{bound-order, bound-less, bound-met, slack-less, lower-order, lower-total, lower-says}
 use Rattle.rules.specs.Method.{Outcome, placed, stuck, method}
-use Rattle.rules.specs.Rules.{over, Accepted, RefusedAt}
+use Rattle.rules.specs.Rules.{over, Accepted}
 use Rattle.rules.proofs.Tails.{attained, base-threshold}
 use Rattle.rules.proofs.ReleaseOrder.{inorder-arranged, nodup-arranged, arranged-in, in-arranged}
-use Rattle.rules.proofs.Rules.{Ones, tail-base, base-tail, turn-falls}
-use Rattle.rules.proofs.Obeys.{method-placed, method-stuck, accepted-one, refused-one, accepted-refused}
+use Rattle.rules.proofs.Rules.{tail-base, base-tail, turn-falls}
+use Rattle.rules.proofs.Obeys.{fit-ones, method-placed, method-stuck, accepted-one, refused-one, accepted-refused}
 use Rattle.rules.proofs.Accepted.{accepted-six, accepted-seven, accepted-apart}
 use Rattle.rules.proofs.Slack.{chosen-slack, least-slack-one}
 use Rattle.olda.specs.declared.Answer.the-variants.{Placed, Nothing, Refused}
 use Rattle.olda.specs.Answers.{report, answer, results, values}
-use Rattle.promises.specs.Words.{accepted, Faults, Assigned, at}
+use Rattle.promises.specs.Words.{accepted, Assigned, at}
 use Rattle.promises.specs.Assign as says
-use Rattle.promises.specs.Assign.{Reported, resultsFit, AssignSays, AssignAnswers, RulesAllowOne, ReleaseOrderIsTheSet, TailIsTheBase, TailIsOneRelease, CompletionsFall, DeadlinesDiffer, DeadlinesMeetSixAndSeven, SumsAreSigned}
+use Rattle.promises.specs.Assign.{Reported, resultsFit, AssignSays, AssignAnswers, RulesAllowOne, ReleaseOrderIsTheSet, TailIsTheBase, TailIsOneRelease, CompletionsFall, DeadlinesDiffer, DeadlinesMeetSixAndSeven, SumsAreSigned, TiesByPair}
 use Rattle.promises.proofs.Faulted.{faulted, judged-cases, refused-number}
-
--- A set that passes refusal 3 has executions of at least 1.
-pub fit-ones : (s : Subjobs) (o : Bool) → Fit s o → Ones (execution s) (places (size s))
-fit-ones s o f i m = f .ranges i (places-in (size s) i m) .some
 
 -- Nobody is placed in an empty set.
 empty : (s : Subjobs) (d : ℕ → ℕ) → size s ≡ 0 → Accepted s d
@@ -52,14 +46,14 @@ empty s d z = rw z over
 
 -- The report of deadlines ds: nothing for an empty set, and otherwise the least slack and the smallest place that has it.
 module _ (s : Subjobs) (ds : List ℕ) where
-  report-none : size s ≡ 0 → report s (at ds) ≡ Nothing
+  pub report-none : size s ≡ 0 → report s (at ds) ≡ Nothing
   unfolding report
   report-none z =
       split (choose-cases (bySlack (terms s) (at ds)) (places (size s)))
       (λ w. rw (w .1))
       (λ w. absurd (omega (arith, places-in (size s) (w .0) (w .1))))
 
-  report-some :
+  pub report-some :
       (p : ℕ)
       → choose (bySlack (terms s) (at ds)) (places (size s)) ≡ some p
       → report s (at ds) ≡ Placed (record { slack = slack (terms s) (at ds) p; place = p })
@@ -76,7 +70,7 @@ module _ (s : Subjobs) (ds : List ℕ) where
       ∙ bound-order (terms s .deadline) (λ i. terms s .withheld i + at ds i) .irrefl q)
 
   -- The place that is chosen is reported ..
-  chosen-reported :
+  pub chosen-reported :
       {p : ℕ} → choose (bySlack (terms s) (at ds)) (places (size s)) ≡ some p → Reported s ds p (slack (terms s) (at ds) p)
   chosen-reported {p} e =
       let o = bound-order (terms s .deadline) (λ i. terms s .withheld i + at ds i) in
@@ -111,6 +105,10 @@ report-accepted s ds =
     (λ w. rw (report-none s ds (places-nil (size s) (w .0))) refl)
     (λ w. rw (report-some s ds (w .0) (w .2)) refl)
 
+pub nil : (l : List ℕ) → length l ≡ 0 → l ≡ []
+nil [] e = refl
+nil (x ∷ l) e = absurd (omega arith)
+
 -- What `assign` answers and leaves, by what the judgement and the method say.
 module _ (s : Subjobs) (out : List ℕ) where
   pub refused-answer : {r : Reason} → judgement s (resultsFit s out) ≡ judged.Refused r → (answer s (length out) ≡ Refused r) × (results s out ≡ out)
@@ -132,19 +130,15 @@ module _ (s : Subjobs) (out : List ℕ) where
     by-method : (w : Outcome) → method s ≡ w → AssignSays s out (values (answer s (length out))) (results s out)
     by-method (stuck p m) q =
         let a = stuck-answer p m q in
-        rw (a .0, a .1) (says.late f (method-stuck s (fit-ones s (resultsFit s out) f) p m .0 q))
+        rw (a .0, a .1) (says.late f (method-stuck s f p m .0 q))
     by-method (placed ds) q =
         let a = placed-answer ds q in
-        let b = method-placed s (fit-ones s (resultsFit s out) f) ds .0 q in
+        let b = method-placed s f ds .0 q in
         split (choose-cases (bySlack (terms s) (at ds)) (places (size s)))
         (λ w.
         let z = places-nil (size s) (w .0) in
         rw (a .0, a .1, report-none s ds z, nil ds (b .0 ∙ z)) (says.nothing f z))
         (λ w. rw (a .0, a .1, report-some s ds (w .0) (w .2)) (says.placed f (b .0) (b .1) (chosen-reported s ds (w .2))))
-      where
-        nil : (l : List ℕ) → length l ≡ 0 → l ≡ []
-        nil [] e = refl
-        nil (x ∷ l) e = absurd (omega arith)
 
   says-so : AssignSays s out (values (answer s (length out))) (results s out)
   says-so =
@@ -159,13 +153,13 @@ module _ (s : Subjobs) (out : List ℕ) where
       let a = refused-answer (w .1) in
       (w .2 ∙ sym (ap values (a .0)), sym (a .1))
   only (says.late {p} {m} f h) =
-      let a = stuck-answer f p m (method-stuck s (fit-ones s (resultsFit s out) f) p m .1 h) in
+      let a = stuck-answer f p m (method-stuck s f p m .1 h) in
       (sym (ap values (a .0)), sym (a .1))
   only (says.nothing f z) =
-      let a = placed-answer f [] (method-placed s (fit-ones s (resultsFit s out) f) [] .1 (sym z, empty s (at []) z)) in
+      let a = placed-answer f [] (method-placed s f [] .1 (sym z, empty s (at []) z)) in
       (sym (ap values (a .0 ∙ report-none s [] z)), sym (a .1))
   only (says.placed {ds} {p} {x} f l h r) =
-      let a = placed-answer f ds (method-placed s (fit-ones s (resultsFit s out) f) ds .1 (l, h)) in
+      let a = placed-answer f ds (method-placed s f ds .1 (l, h)) in
       let c = report-some s ds p (reported-chosen s ds r) in
       (ap (λ (y : ℤ). pos 0 ∷ y ∷ pos p ∷ []) (sym (r .2)) ∙ sym (ap values (a .0 ∙ c)), sym (a .1))
 
@@ -174,11 +168,7 @@ assign-answers s out = (says-so s out, λ v l h. only s out h)
 
 pub rules-allow-one : RulesAllowOne
 rules-allow-one s o f =
-    let ones = fit-ones s o f in (
-      λ d d′ a a′. accepted-one s ones a a′,
-      λ p m p′ m′ h h′. refused-one s ones h h′,
-      λ d p m a h. accepted-refused s ones a h,
-    )
+    (λ d d′ a a′. accepted-one s f a a′, λ p m p′ m′ h h′. refused-one s f h h′, λ d p m a h. accepted-refused s f a h)
 
 pub release-order-is-the-set : ReleaseOrderIsTheSet
 release-order-is-the-set r xs =
@@ -192,6 +182,18 @@ tail-is-one-release r c xs s ones = (sym (base-threshold r c xs s ones), attaine
 
 pub completions-fall : CompletionsFall
 completions-fall s xs ones b m b′ m′ t t′ = turn-falls (terms s) (lower-order s) xs ones t t′
+
+pub ties-by-pair : TiesByPair
+ties-by-pair s i j = (
+  lower-says s i j,
+  λ o f a b n.
+      test (lower s i j)
+      (λ y. inl (lower-says s i j .0 y))
+      (λ y.
+      test (lower s j i)
+      (λ z. inr (lower-says s j i .0 z))
+      (λ z. absurd (n (lower-total s (f .pairs) i j (in-places (size s) i a) (in-places (size s) j b) y z)))),
+)
 
 pub sums-are-signed : SumsAreSigned
 sums-are-signed T d i j = (bound-less T i j, bound-met T (d i) i, slack-less T d i j)
@@ -219,5 +221,5 @@ deadlines-meet-six-and-seven s ds h =
 pub deadlines-differ : DeadlinesDiffer
 deadlines-differ s ds h i j p q =
     let w = assigned-rules s ds h in
-    accepted-apart (terms s) (lower-order s) (places (size s)) (fit-ones s (resultsFit s (h .0)) (w .0)) (w .2)
+    accepted-apart (terms s) (lower-order s) (places (size s)) (fit-ones s (w .0)) (w .2)
     (in-places (size s) i p) (in-places (size s) j q)

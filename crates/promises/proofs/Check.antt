@@ -1,12 +1,10 @@
 -- What is promised of the checker holds, by the one law of its judgements.
-use Prim.Native.Nat.{ℕ, _<_, _≤_}
-use mathlib.Core.Bool.{Bool, true}
-use mathlib.Core.List.{List, [], _∷_}
+use Prim.Native.Nat.{ℕ, _<_}
+use mathlib.Core.List.{List}
 use mathlib.Core.Logic.{_⊎_, inl, inr}
 use mathlib.Core.Path.{_≡_, refl, sym, ap, _∙_}
 use native.Mathlib.Omega.{arith}
-use lib.IntN.{ℤ, pos}
-use lib.ListN.{length, getD}
+use lib.IntN.{ℤ}
 use Rattle.lists.proofs.Cases.{split}
 use Rattle.lists.proofs.Members.{in-places, places-in}
 use Rattle.subjobs.specs.declared.Judgement.{Judgement}
@@ -22,9 +20,9 @@ use Rattle.checker.specs.declared.Answer.the-variants.{Accepted, Refused}
 use Rattle.checker.specs.Answers as checker
 use Rattle.checker.specs.Answers.{answer, values}
 use Rattle.checker.proofs.Accepts.{checked, seven-finishes, Unmets, Misses}
-use Rattle.promises.specs.Words.{accepted, Faults, at, Meets, MeetsSix, MeetsSeven}
+use Rattle.promises.specs.Words.{accepted, at, Meets, MeetsSix, MeetsSeven}
 use Rattle.promises.specs.Check as says
-use Rattle.promises.specs.Check.{proposedFit, OnTime, CheckSays, CheckAnswers, ChecksExactly, SevenOnTheCore, KeepsDeadlines}
+use Rattle.promises.specs.Check.{proposedFit, CheckSays, CheckAnswers, ChecksExactly, SevenOnTheCore, KeepsDeadlines}
 use Rattle.promises.proofs.Faulted.{faults, faulted, refused-number}
 
 module _ (s : Subjobs) (ds : List ℕ) where

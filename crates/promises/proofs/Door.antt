@@ -1,7 +1,7 @@
 -- What is promised of the engine's door holds: what it returns and leaves is what the assignment and the checker say of the
 -- records, in one number.
 use Prim.Native.Nat.{ℕ, _+_, _*_, _/_, _%_, _<_}
-use mathlib.Core.Bool.{true, false}
+use mathlib.Core.Bool.{true}
 use mathlib.Core.List.{List, [], _∷_}
 use mathlib.Core.Logic.{_≢_}
 use mathlib.Core.Path.{_≡_, refl, sym, ap, _∙_, subst}
@@ -9,7 +9,7 @@ use native.Mathlib.Omega.{arith}
 use borrow.Author.Tests.{eqb-true, eq-eqb}
 use lib.Dec.{eqb}
 use lib.IntN.{ℤ, pos}
-use lib.ListN.{length, getD, replicate, length-replicate}
+use lib.ListN.{length, length-replicate}
 use Rattle.lists.proofs.Cases.{test, clash, both}
 use Rattle.lists.proofs.Members.{in-places}
 use Rattle.subjobs.specs.declared.Reason.{Reason}
@@ -35,7 +35,7 @@ use Rattle.promises.specs.Check.{CheckSays}
 use Rattle.promises.specs.Door as says
 use Rattle.promises.specs.Door.{Whole, room, DoorAssignSays, DoorCheckSays, DoorAssigns, DoorChecks, ToldApart, DoorAgrees}
 use Rattle.promises.proofs.Faulted.{faulted, refused-number}
-use Rattle.promises.proofs.Assign.{assign-answers, assigned-rules, deadlines-meet-six-and-seven}
+use Rattle.promises.proofs.Assign.{nil, assign-answers, assigned-rules, deadlines-meet-six-and-seven}
 use Rattle.promises.proofs.Check.{check-answers}
 use Rattle.promises.proofs.Demand3.{checker-agrees}
 
@@ -47,10 +47,6 @@ whole bs ds e =
 
 fits : (bs ds : List ℕ) → Whole bs ds → fitting bs (length ds) ≡ true
 fits bs ds w = rw (eq-eqb (length bs % 24) 0 (w .0), eq-eqb (length ds) (4 * count bs) (w .1))
-
-nil : (l : List ℕ) → length l ≡ 0 → l ≡ []
-nil [] e = refl
-nil (x ∷ l) e = absurd (omega arith)
 
 room-length : (bs : List ℕ) → length (room bs) ≡ count bs
 room-length bs = length-replicate {A = ℕ} (count bs) 0
@@ -82,7 +78,7 @@ check-taken check.Accepted e = refl
 check-taken (check.Refused r) e = absurd (refused-number r e)
 
 -- "Nothing to place" is said of an empty set alone, and leaves an empty list.
-nothing-placed :
+pub nothing-placed :
     (s : Subjobs) (out : List ℕ) {v : List ℤ} {l : List ℕ} → AssignSays s out v l → v ≡ pos 0 ∷ [] → (size s ≡ 0) × (l ≡ [])
 nothing-placed s out (assign.faulty f) e =
     let w = faulted s (assign.resultsFit s out) f in absurd (refused-number (w .0) (subst accepted (sym (sym (w .2) ∙ e)) refl))

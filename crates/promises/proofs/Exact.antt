@@ -26,7 +26,7 @@ use Rattle.rules.proofs.Accepted.{accepted-falls}
 use Rattle.lists.proofs.Rearranged.{same-sym}
 use Rattle.ticks.specs.Core.{served}
 use Rattle.ticks.specs.Runs.{due, servedBefore, load, finish, run}
-use Rattle.ticks.proofs.Service.{Counters, counters, served-is-active, served-most}
+use Rattle.ticks.proofs.Service.{counters, served-is-active, served-most}
 use Rattle.ticks.proofs.Finishes.{finish-by}
 use Rattle.ticks.proofs.Ticks.{run-length, finish-at}
 use Rattle.ticks.proofs.Sooner.{sooner-order, sooner-by, sooner-total}
@@ -71,7 +71,7 @@ module _
 
   ready : Ready (terms s) (servedBefore s ds) sorted
   ready =
-      let total = sooner-total d (job s) (subtask s) (size s) (fit .pairs) in
+      let total = sooner-total d s (fit .pairs) in
       record {
         ones = λ i m. fit .ranges i (below m) .some;
         sorted = inorder-inOrder (release s) (size s);

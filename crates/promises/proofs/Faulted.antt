@@ -1,5 +1,4 @@
 -- Numbers 1 to 4 in RULES' numbers: a judgement refuses with just these values, and only such.
-use Prim.Native.Nat.{ℕ}
 use mathlib.Core.Bool.{Bool}
 use mathlib.Core.List.{List}
 use mathlib.Core.Logic.{_⊎_, inl, inr}

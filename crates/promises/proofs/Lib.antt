@@ -10,3 +10,7 @@ pub mod Cases
 pub mod Door
 pub mod Outcomes
 pub mod Example
+pub mod Reordering
+pub mod ReorderingRuns
+pub mod ReorderingDoor
+pub mod ReorderingText

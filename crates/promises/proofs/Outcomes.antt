@@ -1,6 +1,6 @@
 -- What holds of every entry holds: one outcome, nothing changed after a refusal, all written after acceptance.
 use Prim.Native.Nat.{ℕ}
-use mathlib.Core.Bool.{Bool, _&&_}
+use mathlib.Core.Bool.{_&&_}
 use mathlib.Core.List.{List}
 use mathlib.Core.Path.{_≡_, refl, sym, ap, _∙_, subst}
 use native.Mathlib.Omega.{arith}
@@ -11,7 +11,6 @@ use lib.ListN.{length}
 use Rattle.lists.proofs.Cases.{both}
 use Rattle.subjobs.specs.Sets.{Subjobs, size}
 use Rattle.subjobs.specs.Faults.{Fit}
-use Rattle.rules.specs.Method.{placed}
 use Rattle.rules.proofs.Obeys.{method-placed}
 use Rattle.ticks.specs.Runs.{run}
 use Rattle.ticks.proofs.Ticks.{run-length}
@@ -30,7 +29,7 @@ use Rattle.promises.specs.Simulate.{SimulateSays}
 use Rattle.promises.specs.Door.{room}
 use Rattle.promises.specs.Outcomes.{RefusedKeeps, WritesAll, OneAssign, OneSimulate, OneRun, OneCheck, OneTable, OneDoorAssign, OneDoorCheck, OneJudge, OneTell, OneRecord, OneAfterLine, OneWrite}
 use Rattle.promises.proofs.Faulted.{faulted, refused-number}
-use Rattle.promises.proofs.Assign.{fit-ones, assign-answers, assigned-rules, placed-answer}
+use Rattle.promises.proofs.Assign.{assign-answers, assigned-rules, placed-answer}
 use Rattle.promises.proofs.Simulate.{simulate-answers}
 use Rattle.promises.proofs.Door.{door-keeps, door-placed}
 
@@ -60,7 +59,7 @@ assign-writes s out old a l =
     let ds = olda.results s out in
     let w = assigned-rules s ds (out, a, refl) in
     let f : Fit s (resultsFit s old) = rw l (w .0) in
-    let q = placed-answer s old f ds (method-placed s (fit-ones s (resultsFit s old) f) ds .1 (w .1, w .2)) in
+    let q = placed-answer s old f ds (method-placed s f ds .1 (w .1, w .2)) in
     (sym (q .1), w .1 ∙ sym (eqb-true _ _ (w .0 .lengths .further)))
 
 simulate-writes :

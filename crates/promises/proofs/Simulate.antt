@@ -1,6 +1,6 @@
 -- What is promised of the simulator holds: its answers are those of RULES, and a run's numbers are the single-tick core's.
 use Prim.Native.Nat.{ℕ, _+_, _<_, _≤_}
-use mathlib.Core.Bool.{Bool, true, false, _||_}
+use mathlib.Core.Bool.{Bool, true, false}
 use mathlib.Core.List.{List}
 use mathlib.Core.Logic.{_⊎_, inl, inr, _↔_}
 use mathlib.Core.Path.{_≡_, refl, sym, ap, _∙_}
@@ -8,8 +8,8 @@ use native.Mathlib.Omega.{arith}
 use borrow.Author.Tests.{lt-ltb, le-ltb}
 use lib.Dec.{ltb, eqb}
 use lib.IntN.{ℤ}
-use lib.ListN.{length, getD}
-use Rattle.lists.proofs.Cases.{split, test, tests, neither}
+use lib.ListN.{length}
+use Rattle.lists.proofs.Cases.{split, test, tests}
 use Rattle.lists.proofs.Members.{in-places}
 use Rattle.subjobs.specs.declared.Judgement.the-variants as judged
 use Rattle.subjobs.specs.declared.Reason.{Reason}
@@ -26,22 +26,22 @@ use Rattle.edf.specs.declared.Answer.{Answer}
 use Rattle.edf.specs.declared.Answer.the-variants.{Ran, Refused}
 use Rattle.edf.specs.declared.Totals.{Totals}
 use Rattle.edf.specs.Answers.{added, above, furtherLists, answer, totals, finishes, values}
-use Rattle.promises.specs.Words.{accepted, Faults, served, finish}
+use Rattle.promises.specs.Words.{accepted, served, finish}
 use Rattle.promises.specs.Simulate as says
 use Rattle.promises.specs.Simulate.{most, SimulateSays, SimulateAnswers, RunAnswers, FinishIsLastTick, ServedByFinish, OwedNothing, NeverMore, BusyIsOwed, TicksAreTheEnd, RunsAddUp}
 use Rattle.promises.proofs.Faulted.{faulted, judged-cases, refused-number}
 
 -- What the simulator answers and leaves, by what the judgement and the totals say.
 module _ (s : Subjobs) (ds asks fs : List ℕ) (t : Totals) where
-  abbrev further : Bool
+  abbrev pub further : Bool
   further = furtherLists s ds asks (length fs)
 
   -- The answer with the list and the totals that are left.
-  abbrev Leaves : Answer → List ℕ → Totals → Type 0
+  abbrev pub Leaves : Answer → List ℕ → Totals → Type 0
   Leaves r l u =
       (answer s ds asks (length fs) t ≡ r) × (finishes s ds asks fs t ≡ l) × (totals s ds asks (length fs) t ≡ u)
 
-  refused-leaves : {r : Reason} → judgement s further ≡ judged.Refused r → Leaves (Refused r) fs t
+  pub refused-leaves : {r : Reason} → judgement s further ≡ judged.Refused r → Leaves (Refused r) fs t
   unfolding answer finishes totals
   refused-leaves e = (rw e, rw e, rw e)
 
@@ -49,11 +49,11 @@ module _ (s : Subjobs) (ds asks fs : List ℕ) (t : Totals) where
     passed : judgement s further ≡ judged.Passed
     passed = fit-passes s further f
 
-    above-leaves : above (added (run s ds asks) t) ≡ true → Leaves (Refused reason.Totals) fs t
+    pub above-leaves : above (added (run s ds asks) t) ≡ true → Leaves (Refused reason.Totals) fs t
     unfolding answer finishes totals
     above-leaves e = (rw (passed, e), rw (passed, e), rw (passed, e))
 
-    ran-leaves :
+    pub ran-leaves :
         above (added (run s ds asks) t) ≡ false
         → Leaves (Ran (record { end = run s ds asks .end })) (run s ds asks .finishes) (added (run s ds asks) t)
     unfolding answer finishes totals

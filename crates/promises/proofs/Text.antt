@@ -1,10 +1,9 @@
 -- What is promised of the table program's text holds: reading by the law of `table`, the rest by what is promised of
 -- `assign`.
-use Prim.Native.Nat.{ℕ, _+_, _≤_}
-use mathlib.Core.Bool.{Bool, true}
-use mathlib.Core.List.{List, [], _∷_, map}
+use Prim.Native.Nat.{ℕ, _≤_}
+use mathlib.Core.Bool.{true}
+use mathlib.Core.List.{List, map}
 use mathlib.Core.Path.{_≡_, refl, sym, ap, _∙_}
-use mathlib.Core.Logic.{_↔_}
 use native.Mathlib.Omega.{arith}
 use borrow.Author.Tests.{eq-eqb}
 use lib.Dec.{eqb}
@@ -21,18 +20,16 @@ use Rattle.subjobs.specs.Faults as faults
 use Rattle.subjobs.specs.Faults.{OneLength, Fit, Faulty}
 use Rattle.subjobs.proofs.Fit.{fit-passes, judged, judged-exactly}
 use Rattle.rules.specs.Method.{Outcome, placed, stuck, method}
-use Rattle.rules.specs.Rules.{Accepted}
 use Rattle.rules.proofs.Obeys.{method-placed, method-stuck}
 use Rattle.olda.specs.declared.Answer.{Answer}
 use Rattle.olda.specs.declared.Answer.the-variants.{Placed, Nothing, Refused}
 use Rattle.olda.specs.Answers as olda
 use Rattle.table.specs.Format as format
-use Rattle.table.specs.Format.{Rows, Parsed, records, refused, Begins, Reads}
+use Rattle.table.specs.Format.{Rows, Parsed, records, refused, Reads}
 use Rattle.table.specs.Reading.{read, setOf}
 use Rattle.table.specs.Writing.{printedLine, refusal}
 use Rattle.table.specs.Answers as table
 use Rattle.table.proofs.Exactly.{read-exactly}
-use Rattle.table.proofs.Outcomes.{Sound}
 use Rattle.table.proofs.Longest.{answer-length}
 use Rattle.table.proofs.OneLine.{accepted-lines}
 use Rattle.table.specs.Answers.{verdictOf, tabled, answer}
@@ -40,7 +37,7 @@ use Rattle.promises.specs.Words.{accepted, Assigned, at}
 use Rattle.promises.specs.Text as says
 use Rattle.promises.specs.Text.{refusedLine, printed, Tabled, TableSays, TableAnswers, OneLineEach, AnswerFits}
 use Rattle.promises.proofs.Faulted.{refused-number}
-use Rattle.promises.proofs.Assign.{fit-ones, refused-answer, placed-answer, stuck-answer, report-accepted, assigned-rules}
+use Rattle.promises.proofs.Assign.{refused-answer, placed-answer, stuck-answer, report-accepted, assigned-rules}
 
 -- An answer whose number is 0 is no refusal.
 no-refusal : (a : Answer) → accepted (olda.values a) → verdictOf a ≡ judged.Passed
@@ -54,7 +51,7 @@ unfolding refusal
 line-of r = refl
 
 -- The records of a table are lists of one length.
-rows-length : (rows : Rows) → OneLength (setOf rows) true
+pub rows-length : (rows : Rows) → OneLength (setOf rows) true
 rows-length rows =
     record {
       subtasks = same 1;
@@ -68,7 +65,7 @@ rows-length rows =
     same : (k : ℕ) → length (map (λ (row : List ℕ). getD row k 0) rows) ≡ length (map (λ (row : List ℕ). getD row 0 0) rows)
     same k = length-map rows (λ (row : List ℕ). getD row k 0) ∙ sym (length-map rows (λ (row : List ℕ). getD row 0 0))
 
-rows-size : (rows : Rows) → size (setOf rows) ≡ length rows
+pub rows-size : (rows : Rows) → size (setOf rows) ≡ length rows
 rows-size rows = length-map rows (λ (row : List ℕ). getD row 0 0)
 
 -- A set, with a result list of its size.
@@ -107,7 +104,7 @@ module _ (s : Subjobs) where
         let a = placed-answer s room fits ds q in
         tabled-passed (ap (λ (n : ℕ). verdictOf (olda.answer s n)) (sym long) ∙ ap verdictOf (a .0) ∙ no-refusal (olda.report s (at ds)) (report-accepted s ds)) (a .1)
 
-    gives : {ds : List ℕ} → method s ≡ placed ds → Assigned s ds
+    pub gives : {ds : List ℕ} → method s ≡ placed ds → Assigned s ds
     gives {ds} q = let a = placed-answer s room fits ds q in (room, rw (a .0) (report-accepted s ds), a .1)
 
 -- What the output is, by what the text is read as.
@@ -136,7 +133,7 @@ module _ (text : List ℕ) where
     by-method : Fit (setOf rows) true → (w : Outcome) → method (setOf rows) ≡ w → TableSays text (tabled (setOf rows))
     by-method f (stuck p m) q =
         let s = setOf rows in
-        rw (is-stuck s f q, line-of (Late p m (bound (terms s) p))) (says.late t f (method-stuck s (fit-ones s true f) p m .0 q))
+        rw (is-stuck s f q, line-of (Late p m (bound (terms s) p))) (says.late t f (method-stuck s f p m .0 q))
     by-method f (placed ds) q = rw (is-placed (setOf rows) f q) (says.accepted t (gives (setOf rows) f q))
 
     by-set : TableSays text (tabled (setOf rows))
@@ -168,12 +165,12 @@ module _ (text : List ℕ) where
   only (says.pair t f) = faulting t f
   only (says.late {rows} {p} {m} t f h) =
       let s = setOf rows in
-      sym (is-read t ∙ is-stuck s f (method-stuck s (fit-ones s true f) p m .1 h) ∙ line-of (Late p m (bound (terms s) p)))
+      sym (is-read t ∙ is-stuck s f (method-stuck s f p m .1 h) ∙ line-of (Late p m (bound (terms s) p)))
   only (says.accepted {rows} {ds} t h) =
       let s = setOf rows in
       let w = assigned-rules s ds h in
       let f : Fit s true = rw (w .0 .lengths .further) at (w .0) in
-      sym (is-read t ∙ is-placed s f (method-placed s (fit-ones s true f) ds .1 (w .1, w .2)))
+      sym (is-read t ∙ is-placed s f (method-placed s f ds .1 (w .1, w .2)))
 
 pub table-answers : TableAnswers
 table-answers text = (by-reading text refl (read-exactly text (read text) .0 refl), λ o h. only text h)
@@ -184,7 +181,7 @@ one-line-each s ds h =
     let w = assigned-rules s ds h in
     let f : Fit s true = rw (w .0 .lengths .further) at (w .0) in
     accepted-lines s ds
-    (record { passed = fit-passes s true f; is = method-placed s (fit-ones s true f) ds .1 (w .1, w .2) })
+    (record { passed = fit-passes s true f; is = method-placed s f ds .1 (w .1, w .2) })
 
 pub answer-fits : AnswerFits
 answer-fits = answer-length

@@ -8,10 +8,11 @@
 --   CompletionsFall, DeadlinesDiffer == completions fall from step to step, so deadlines are all different
 --   DeadlinesMeetSixAndSeven == the deadlines of an accepted set meet (6) and (7)
 --   SumsAreSigned         == where the rules compare by sums, they compare signed numbers
+--   TiesByPair            == the base sub-job is told from others by bound, job and subtask; in a set that passes, from all
 use Prim.Native.Nat.{ℕ, _+_, _<_, _≤_}
-use mathlib.Core.Bool.{Bool}
+use mathlib.Core.Bool.{Bool, true}
 use mathlib.Core.List.{List, [], _∷_, List·Memᴰ}
-use mathlib.Core.Logic.{_≢_, _↔_}
+use mathlib.Core.Logic.{_≢_, _⊎_, _↔_}
 use mathlib.Core.Path.{_≡_}
 use lib.Dec.{leb, eqb}
 use lib.IntN.{ℤ, pos}
@@ -19,7 +20,7 @@ use lib.ListN.{length}
 use lib.Signed.{leZ, ltZ}
 use Rattle.lists.specs.Places.{places, filter, without, least, InOrder, Nodup}
 use Rattle.subjobs.specs.Sets.{Subjobs, size, byBound}
-use Rattle.subjobs.specs.Terms.{Terms, terms, bound, slack, bySlack}
+use Rattle.subjobs.specs.Terms.{Terms, terms, bound, slack, bySlack, lower, Behind}
 use Rattle.subjobs.specs.Faults.{Fit}
 use Rattle.subjobs.specs.Conditions.{completion}
 use Rattle.rules.specs.Rules.{Base, Turn, Accepted, RefusedAt, LeastSlack}
@@ -140,3 +141,11 @@ SumsAreSigned =
     → (byBound (T .deadline) (T .withheld) i j ≡ ltZ (bound T i) (bound T j))
     × (leb (d i + T .withheld i) (T .deadline i) ≡ leZ (pos (d i)) (bound T i))
     × (bySlack T d i j ≡ ltZ (slack T d i) (slack T d j))
+
+-- The order of the base sub-job is the one that is meant, and of two sub-jobs of a set that passes refusals 1 to 4 one
+-- stands behind the other, since their pairs differ.
+abbrev pub TiesByPair : Type 0
+TiesByPair =
+    (s : Subjobs) (i j : ℕ)
+    → ((lower s i j ≡ true) ↔ Behind s i j)
+    × ((others : Bool) → Fit s others → i < size s → j < size s → i ≢ j → Behind s i j ⊎ Behind s j i)

@@ -92,6 +92,10 @@ p4 = setOf (sub 0 2 35 ∷ sub 4 2 42 ∷ sub 5 2 39 ∷ sub 6 1 35 ∷ [])
 abbrev pub p5 : Subjobs
 p5 = setOf (sub 0 4 20 ∷ sub 4 3 10 ∷ [])
 
+-- of jobs 5 and 2
+abbrev pub p6 : Subjobs
+p6 = subjobs (5 ∷ 2 ∷ []) (1 ∷ 1 ∷ []) (0 ∷ 0 ∷ []) (2 ∷ 3 ∷ []) (9 ∷ 9 ∷ []) (0 ∷ 0 ∷ [])
+
 abbrev pub p8 : Subjobs
 p8 = setOf (sub 0 3 3 ∷ sub 1 1 2 ∷ [])
 
@@ -108,8 +112,8 @@ table =
     ∷ based p4 (1 ∷ 2 ∷ 3 ∷ []) 9
     -- P5
     ∷ assigned p5 (leastSlack 3 1) (4 ∷ 7 ∷ [])
-    -- P6, of jobs 5 and 2
-    ∷ assigned (subjobs (5 ∷ 2 ∷ []) (1 ∷ 1 ∷ []) (0 ∷ 0 ∷ []) (2 ∷ 3 ∷ []) (9 ∷ 9 ∷ []) (0 ∷ 0 ∷ [])) (leastSlack 4 1) (2 ∷ 5 ∷ [])
+    -- P6
+    ∷ assigned p6 (leastSlack 4 0) (5 ∷ 3 ∷ [])
     -- P7, with deadline 3 and critical time 5
     ∷ assigned (subjobs (1 ∷ []) (1 ∷ []) (0 ∷ []) (1 ∷ []) (3 ∷ []) (5 ∷ [])) (refused 5 0 1 (negℤ (pos 2))) (99 ∷ [])
     -- P8

@@ -8,3 +8,4 @@ pub mod Example
 pub mod Door
 pub mod Outcomes
 pub mod Cases
+pub mod Reordering

@@ -14,7 +14,7 @@
 --   RunsAddUp         == two runs' totals add up
 --   NeverMore         == nobody is served more than it is owed
 use Prim.Native.Nat.{ℕ, suc, _+_, _<_, _≤_}
-use mathlib.Core.Bool.{Bool, true}
+use mathlib.Core.Bool.{true}
 use mathlib.Core.List.{List, [], _∷_}
 use mathlib.Core.Logic.{_⊎_, _≢_}
 use mathlib.Core.Option.{Option, some}
@@ -25,7 +25,7 @@ use Rattle.lists.specs.Places.{places, weight}
 use Rattle.subjobs.specs.Sets.{Subjobs, size, release}
 use Rattle.subjobs.specs.Faults.{Fit}
 use Rattle.ticks.specs.Core.{pick}
-use Rattle.ticks.specs.Runs.{Run, due, load, coreAt, run}
+use Rattle.ticks.specs.Runs.{due, load, coreAt, run}
 use Rattle.edf.specs.declared.Answer.{Answer}
 use Rattle.edf.specs.declared.Totals.{Totals}
 use Rattle.edf.specs.Answers.{furtherLists, answer, finishes, totals, values, simulated, Runs}

@@ -12,7 +12,7 @@ use mathlib.Core.Bool.{true}
 use mathlib.Core.List.{List, [], _∷_, _++_, map}
 use mathlib.Core.Logic.{_≢_}
 use mathlib.Core.Path.{_≡_}
-use lib.ListN.{length, getD}
+use lib.ListN.{length}
 use Rattle.lists.specs.Places.{places}
 use Rattle.subjobs.specs.declared.Field.{Field}
 use Rattle.subjobs.specs.declared.Reason.the-variants.{Range, Pair}
@@ -22,7 +22,7 @@ use Rattle.subjobs.specs.Faults.{Fit, Faulty}
 use Rattle.rules.specs.Rules.{RefusedAt}
 use Rattle.ticks.specs.Runs.{run}
 use Rattle.text.specs.Format.{Line, First}
-use Rattle.text.specs.Writing.{decimal, crlf}
+use Rattle.text.specs.Writing.{decimal}
 use Rattle.text.specs.Lines.{linesOf}
 use Rattle.table.specs.Format.{header, fields, Rows, Begins}
 use Rattle.table.specs.Reading.{setOf}

@@ -12,7 +12,8 @@
 --   λ i. e         the function that gives e for i
 --   x ∷ xs, []     the list that starts with x and goes on with xs; the empty list
 --
---   accepted v           == the number of an answer with the values v is 0
+--   Number n v           == the number of an answer with the values v is n
+--   accepted v           == it is 0
 --   refusal n p f        == the values of a refusal that has no completion and no bound: number, place, field
 --   Faults s others v    == numbers 1 to 4 refuse the set s with the values v; others says of the call's further lists that
 --                           they are as long as the six
@@ -39,9 +40,12 @@ use Rattle.subjobs.specs.Conditions.{SixAt, Six, Seven}
 use Rattle.olda.specs.Answers as olda
 use Rattle.ticks.specs.Runs.{coreAt, run}
 
+abbrev pub Number : ℕ → List ℤ → Type 0
+Number n [] = ⊥
+Number n (m ∷ vs) = m ≡ pos n
+
 abbrev pub accepted : List ℤ → Type 0
-accepted [] = ⊥
-accepted (n ∷ vs) = n ≡ pos 0
+accepted v = Number 0 v
 
 -- number, place, field (0 none), completion, bound
 abbrev pub refusal : (number place field : ℕ) → List ℤ

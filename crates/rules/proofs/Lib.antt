@@ -3,6 +3,7 @@ pub mod Falls
 pub mod Gap
 pub mod ReleaseOrder
 pub mod Renaming
+pub mod Rearranging
 pub mod Rules
 pub mod Obeys
 pub mod Remaining

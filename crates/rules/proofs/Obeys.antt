@@ -1,7 +1,7 @@
 -- What the method gives is what the rules give, and nothing else: step by step on a list in release order, then for any
 -- list of places, then for a set.
 use Prim.Native.Nat.{ℕ, zero, suc, _+_, _≤_, _<_}
-use mathlib.Core.Bool.{cond, not}
+use mathlib.Core.Bool.{Bool, cond, not}
 use mathlib.Core.List.{List, [], List·Memᴰ}
 use mathlib.Core.Logic.{_↔_}
 use mathlib.Core.Option.{some}
@@ -19,6 +19,7 @@ use Rattle.lists.proofs.Sums.{weight-in, weight-out, weight-length}
 use Rattle.lists.proofs.Choice.{Order, Total, last-chosen}
 use Rattle.subjobs.specs.Sets.{Subjobs, size, execution}
 use Rattle.subjobs.specs.Terms.{Terms, terms}
+use Rattle.subjobs.specs.Faults.{Fit}
 use Rattle.subjobs.proofs.Bounds.{lower-order, lower-total}
 use Rattle.rules.specs.Method.{inOrder, Outcome, placed, stuck, steps, assigning, method}
 use Rattle.rules.specs.Rules.{Accepts, over, place, Refuses, here, later, Accepted, RefusedAt}
@@ -147,12 +148,15 @@ module _ (T : Terms) where
           )
           any-order (stuck p m) f = same-refuses T (inOrder (T .release) xs) xs (same-arranged (T .release) xs) f
 
--- For a set.
-module _ (s : Subjobs) (ones : Ones (execution s) (places (size s))) where
+-- For a set that passes refusals 1 to 4: executions are at least 1, and no pair stands twice.
+module _ (s : Subjobs) {others : Bool} (f : Fit s others) where
+  pub fit-ones : Ones (execution s) (places (size s))
+  fit-ones i m = f .ranges i (places-in (size s) i m) .some
+
   method-is : (w : Outcome) → (method s ≡ w) ↔ Obeys (terms s) (places (size s)) (replicate (size s) 0) w
   unfolding method
   method-is =
-      assigning-is (terms s) (lower-order s) (places (size s)) (replicate (size s) 0) ones (lower-total s (places (size s)))
+      assigning-is (terms s) (lower-order s) (places (size s)) (replicate (size s) 0) fit-ones (lower-total s (f .pairs))
       (λ i m. omega (arith, places-in (size s) i m, length-replicate {A = ℕ} (size s) 0))
 
   -- The method gives the deadlines ds exactly if the rules do ..
@@ -177,12 +181,12 @@ module _ (s : Subjobs) (ones : Ones (execution s) (places (size s))) where
 
   -- Two lists of deadlines that the rules give a set are equal at every place.
   pub accepted-one : {d d′ : ℕ → ℕ} → Accepted s d → Accepted s d′ → (i : ℕ) → i < size s → d i ≡ d′ i
-  accepted-one a a′ i h = one-deadline (terms s) (lower-order s) (places (size s)) ones a a′ (in-places (size s) i h)
+  accepted-one a a′ i h = one-deadline (terms s) (lower-order s) (places (size s)) fit-ones a a′ (in-places (size s) i h)
 
   -- Two refusals are equal.
   pub refused-one : {p m p′ m′ : ℕ} → RefusedAt s p m → RefusedAt s p′ m′ → (p ≡ p′) × (m ≡ m′)
-  refused-one f f′ = one-refusal (terms s) (lower-order s) (places (size s)) ones f f′
+  refused-one h h′ = one-refusal (terms s) (lower-order s) (places (size s)) fit-ones h h′
 
   -- No set is both accepted and refused.
   pub accepted-refused : {d : ℕ → ℕ} {p m : ℕ} → Accepted s d → RefusedAt s p m → ⊥
-  accepted-refused a f = not-both (terms s) (lower-order s) (places (size s)) ones a f
+  accepted-refused a h = not-both (terms s) (lower-order s) (places (size s)) fit-ones a h

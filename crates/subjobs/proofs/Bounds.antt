@@ -1,20 +1,24 @@
--- The bridge between sums of naturals and signed numbers: a difference of naturals is compared by cross sums.
-use Prim.Native.Nat.{ℕ, suc, _+_, _-_, _<_, _≤_}
-use mathlib.Core.Bool.{true, false, not}
+-- Upper bounds and slacks. The bridge between sums of naturals and signed numbers: a difference of naturals is compared by
+-- cross sums. And the order of the base sub-job.
+use Prim.Native.Nat.{ℕ, suc, _+_, _-_}
+use mathlib.Core.Bool.{Bool, true, false, not}
+use mathlib.Core.List.{List, [], _∷_}
+use mathlib.Core.Logic.{_↔_, inl, inr}
 use mathlib.Core.Path.{_≡_, refl, sym, ap, _∙_}
 use native.Mathlib.Omega.{arith}
-use borrow.Author.Tests.{leb-true, leb-false, lt-ltb, le-ltb}
+use borrow.Author.Tests.{ltb-true, leb-true, leb-false, lt-ltb, le-ltb}
 use lib.Dec.{ltb, leb}
 use lib.IntN.{ℤ, pos, negsuc, subℕ}
 use lib.Signed.{leZ, ltZ}
 use Rattle.lists.proofs.Cases.{split, test, tests, tested, same-ltb}
-use Rattle.subjobs.proofs.Differences.{sub-pos, sub-less}
-use Rattle.subjobs.specs.Sets.{Subjobs, deadline, withheld, byBound}
-use Rattle.subjobs.specs.Terms.{Terms, bound, slack, bySlack, lower}
-use mathlib.Core.Logic.{inl, inr}
-use mathlib.Core.List.{List}
+use Rattle.subjobs.proofs.Differences.{sub-same, sub-pos, sub-less}
+use Rattle.subjobs.proofs.Pairs.{pair-order, pair-total}
+use Rattle.subjobs.specs.Sets.{Subjobs, subjobs, size, job, subtask, deadline, withheld, byBound, byPair}
+use Rattle.subjobs.specs.Terms.{Terms, bound, slack, bySlack, lower, terms, Behind}
+use Rattle.subjobs.specs.Faults.{NoneTwice}
+use Rattle.lists.specs.Places.{places}
 use Rattle.lists.specs.Order.{by}
-use Rattle.lists.proofs.Choice.{Order, Total, by-order, lex-order, lex-total, tie-lex, lex-yes}
+use Rattle.lists.proofs.Choice.{Order, Total, lex-order, lex-total, yes-lex, tie-lex, lex-yes}
 
 signed-less : (a b c d : ℕ) → ltZ (subℕ a b) (subℕ c d) ≡ ltb (a + d) (c + b)
 signed-less a b c d =
@@ -72,30 +76,63 @@ bound-order dl z =
       parts = λ i j k h. test (byBound dl z i j) (λ q. inl q) (λ q. inr (omega tested));
     }
 
--- Of equal bounds the later place stands higher.
-pub lower-ties :
-    (s : Subjobs) (i j : ℕ)
-    → byBound (deadline s) (withheld s) i j ≡ false
-    → byBound (deadline s) (withheld s) j i ≡ false
-    → i < j
-    → lower s i j ≡ true
-lower-ties s i j a b h = tie-lex (byBound (deadline s) (withheld s)) (by (λ k. k)) i j a b ∙ lt-ltb i j h
+-- Two sub-jobs with equal bounds, on which a wrong tie rule shows, computed: of jobs 5 and 2, where place and subtask of the
+-- second are greater; and of one job, where the place is.
+abbrev two : (jobs subtasks : List ℕ) → Subjobs
+two js ks = subjobs js ks (0 ∷ 0 ∷ []) (2 ∷ 3 ∷ []) (9 ∷ 9 ∷ []) (0 ∷ 0 ∷ [])
 
--- The order of the base sub-job: by upper bounds, then by place. It parts any two.
-pub lower-order : (s : Subjobs) → Order (lower s)
-lower-order s =
-    lex-order (byBound (deadline s) (withheld s)) (by (λ i. i)) (bound-order (deadline s) (withheld s)) (by-order (λ i. i))
+pub lower-edges :
+    (lower (two (5 ∷ 2 ∷ []) (1 ∷ 2 ∷ [])) 1 0 ≡ true)
+    × (lower (two (5 ∷ 2 ∷ []) (1 ∷ 2 ∷ [])) 0 1 ≡ false)
+    × (lower (two (5 ∷ 5 ∷ []) (2 ∷ 1 ∷ [])) 1 0 ≡ true)
+    × (lower (two (5 ∷ 5 ∷ []) (2 ∷ 1 ∷ [])) 0 1 ≡ false)
+lower-edges = (refl, refl, refl, refl)
 
-pub lower-total : (s : Subjobs) (xs : List ℕ) → Total (lower s) xs
-lower-total s xs i j a b p q =
-    let w = lex-total (byBound (deadline s) (withheld s)) (by (λ k. k)) (bound-order (deadline s) (withheld s)) i j p q in
-    let lo = w .2 in
-    let hi = w .3 in
-    omega tests
+-- The order of the base sub-job: by upper bounds, then by pairs. Where no pair stands twice it parts any two.
+module _ (s : Subjobs) where
+  abbrev byBounds : ℕ → ℕ → Bool
+  byBounds = byBound (deadline s) (withheld s)
 
--- Who is lower has no greater bound.
-pub lower-bound : (s : Subjobs) (i j : ℕ) → lower s i j ≡ true → deadline s i + withheld s j ≤ deadline s j + withheld s i
-lower-bound s i j h =
-    split (lex-yes (byBound (deadline s) (withheld s)) (by (λ k. k)) i j h)
-    (λ y. omega tests)
-    (λ y. let n = y .1 in omega tests)
+  abbrev byPairs : ℕ → ℕ → Bool
+  byPairs = byPair (job s) (subtask s)
+
+  pub lower-order : Order (lower s)
+  lower-order = lex-order byBounds byPairs (bound-order (deadline s) (withheld s)) (pair-order (job s) (subtask s))
+
+  pub lower-total : NoneTwice s (size s) → Total (lower s) (places (size s))
+  lower-total pairs =
+      lex-total byBounds byPairs (bound-order (deadline s) (withheld s)) (places (size s)) (pair-total s (size s) pairs)
+
+  -- It says what it is read as.
+  module _ (i j : ℕ) where
+    lower-behind : lower s i j ≡ true → Behind s i j
+    lower-behind h =
+        split (lex-yes byBounds byPairs i j h)
+        (λ y. inl (sym (bound-less (terms s) i j) ∙ y))
+        (λ y.
+        let a = y .0 in
+        let b = y .1 in
+        inr (
+          sub-same (deadline s i) (withheld s i) (deadline s j) (withheld s j) (omega tests),
+          split (lex-yes (by (job s)) (by (subtask s)) i j (y .2))
+              (λ q. inl (ltb-true (job s i) (job s j) q))
+              (λ q. let c = q .0 in let d = q .1 in inr (omega tests, ltb-true (subtask s i) (subtask s j) (q .2))),
+        ))
+
+    behind-lower : Behind s i j → lower s i j ≡ true
+    behind-lower h =
+        split h
+        (λ y. yes-lex byBounds byPairs i j (bound-less (terms s) i j ∙ y))
+        (λ y.
+        let T = terms s in
+        tie-lex byBounds byPairs i j
+        (bound-less T i j ∙ rw (y .0) (sym (bound-less T j j) ∙ bound-order (deadline s) (withheld s) .irrefl j))
+        (bound-less T j i ∙ rw (y .0) (sym (bound-less T j j) ∙ bound-order (deadline s) (withheld s) .irrefl j))
+        ∙ split (y .1)
+        (λ q. yes-lex (by (job s)) (by (subtask s)) i j (lt-ltb (job s i) (job s j) q))
+        (λ q.
+        let e = q .0 in
+        tie-lex (by (job s)) (by (subtask s)) i j (omega tested) (omega tested) ∙ lt-ltb (subtask s i) (subtask s j) (q .1)))
+
+    pub lower-says : (lower s i j ≡ true) ↔ Behind s i j
+    lower-says = (lower-behind, behind-lower)

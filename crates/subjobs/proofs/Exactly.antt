@@ -3,7 +3,7 @@
 use Prim.Native.Nat.{ℕ, zero, suc, _+_, _<_, _≤_}
 use mathlib.Core.Bool.{Bool, true, false}
 use mathlib.Core.Logic.{_⊎_, _↔_, inl, inr}
-use mathlib.Core.Path.{_≡_, refl, sym, _∙_, subst}
+use mathlib.Core.Path.{_≡_, refl, sym, ap, _∙_, subst}
 use native.Mathlib.Omega.{arith}
 use lib.Dec.{eqb}
 use Rattle.lists.proofs.Cases.{split, test, clash, tests}
@@ -11,6 +11,7 @@ use Rattle.lists.proofs.Searched.{onward}
 use Rattle.subjobs.specs.declared.Judgement.{Judgement}
 use Rattle.subjobs.specs.declared.Judgement.the-variants.{Passed, Refused}
 use Rattle.subjobs.specs.declared.Reason.{Reason}
+use Rattle.subjobs.specs.Reasons.{numberOf}
 use Rattle.subjobs.specs.Judging.{unless, orElse, refusalFrom, firstRefusal}
 
 -- P makes j pass, Q r makes it refuse for r, and one of these holds.
@@ -110,3 +111,41 @@ module _ (J : ℕ → Judgement) (P : ℕ → Type 0) (Q : ℕ → Reason → Ty
       (λ h k lo hi. h k (omega arith))
       (λ r w. (w .0, omega (arith, w .2), (λ k b. w .3 k (omega arith) b), w .4))
       (λ r w. (w .0, omega arith, omega (arith, w .1), (λ k lo hi. w .2 k hi), w .3))
+
+-- Two judgements that pass alike, and refuse by one number.
+pub data SameNumber : Judgement → Judgement → Type 0 where
+  pass : SameNumber Passed Passed
+  refuse : {r r′ : Reason} → numberOf r ≡ numberOf r′ → SameNumber (Refused r) (Refused r′)
+
+pub same-or :
+    {a a′ b b′ : Judgement} → SameNumber a a′ → (a ≡ Passed → SameNumber b b′) → SameNumber (orElse a b) (orElse a′ b′)
+same-or pass y = y refl
+same-or (refuse e) y = refuse e
+
+-- Where one refuses, so does the other.
+pub same-refused :
+    {j j′ : Judgement} {r : Reason}
+    → SameNumber j j′
+    → j ≡ Refused r
+    → (r′ : Reason) × (j′ ≡ Refused r′) × (numberOf r ≡ numberOf r′)
+same-refused {r = r} pass e = refused-passed r (sym e)
+same-refused {r = r} (refuse {r = q} {r′ = r′} n) e = let g : r ≡ q = cc in (r′, refl, ap numberOf g ∙ n)
+
+-- They are so if they pass alike and every reason of theirs has the number n.
+pub same-exactly :
+    (n : ℕ) {j j′ : Judgement} {P P′ : Type 0} {Q Q′ : Reason → Type 0}
+    → Exactly j P Q
+    → Exactly j′ P′ Q′
+    → (P → P′)
+    → (P′ → P)
+    → ((r : Reason) → Q r → numberOf r ≡ n)
+    → ((r : Reason) → Q′ r → numberOf r ≡ n)
+    → SameNumber j j′
+same-exactly n x y to from is is′ =
+    split (x .holds)
+    (λ p. rw (x .passes p, y .passes (to p)) pass)
+    (λ w.
+    let e = x .refuses (w .0) (w .1) in
+    split (y .holds)
+    (λ p. refused-passed (w .0) (sym e ∙ x .passes (from p)))
+    (λ w′. rw (e, y .refuses (w′ .0) (w′ .1)) (refuse (is (w .0) (w .1) ∙ sym (is′ (w′ .0) (w′ .1))))))

@@ -15,8 +15,8 @@ use Rattle.subjobs.specs.declared.Judgement.the-variants.{Passed, Refuse
 use Rattle.subjobs.specs.declared.Reason.{Reason}
 use Rattle.subjobs.specs.declared.Reason.the-variants.{Lengths, TooMany, Range, Pair}
 use Rattle.subjobs.specs.Sets.{Subjobs, size, job, subtask, release, execution, deadline, critical}
-use Rattle.subjobs.specs.Judging.{unless, oneLength, rangeAt, pairAt, judgement}
-use Rattle.subjobs.specs.Faults.{OneLength, InRange, Ranged, RangedBefore, SamePair, Faulty, lengths, many, range, pair}
+use Rattle.subjobs.specs.Judging.{unless, oneLength, rangeAt, ranges, pairAt, pairs, judgement}
+use Rattle.subjobs.specs.Faults.{OneLength, InRange, AllInRange, Ranged, RangedBefore, SamePair, Faulty, lengths, many, range, pair}
 use Rattle.subjobs.proofs.Exactly.{Exactly, passing, refusing, exactly-so, exactly-test, exactly-unless, exactly-or, exactly-first}
 pub use Rattle.subjobs.specs.Faults.{Fit}
 pub use Rattle.subjobs.proofs.Exactly.{refused-passed}
@@ -124,17 +124,31 @@ module _ (s : Subjobs) (p : ℕ) where
       (exactly-unless false (Pair p) (λ e. clash e refl) (λ e. (h .1, h .2, (eqb-true _ _ (b .0), eqb-true _ _ (b .1))))
       (λ n w. n (w .0) (w .1) (w .2))))
 
+-- 1 to 4, each of a whole set.
 module _ (s : Subjobs) (others : Bool) where
-  few-exactly : Exactly (unless (leb (size s) 128) TooMany) (size s ≤ 128) (λ r. (r ≡ TooMany) × (128 < size s))
+  abbrev FirstRange : Reason → Type 0
+  FirstRange r = (p : ℕ) × (p < size s) × ((k : ℕ) → k < p → InRange (release s k) (execution s k) (deadline s k) (critical s k)) × FirstOut s p r
+
+  abbrev FirstPair : Reason → Type 0
+  FirstPair r = (p : ℕ) × (p < size s) × ((k : ℕ) → k < p → New s k) × ((r ≡ Pair p) × Seen s p)
+
+  pub lengths-exactly : Exactly (unless (oneLength s others) Lengths) (OneLength s others) (λ r. (r ≡ Lengths) × (OneLength s others → ⊥))
+  lengths-exactly = exactly-test (oneLength s others) Lengths (one-length s others) (all-one-length s others)
+
+  pub few-exactly : Exactly (unless (leb (size s) 128) TooMany) (size s ≤ 128) (λ r. (r ≡ TooMany) × (128 < size s))
   few-exactly = exactly-unless (leb (size s) 128) TooMany (λ e. omega tests) (λ e. omega tests) (λ a b. omega arith)
+
+  pub ranges-exactly : Exactly (ranges (release s) (execution s) (deadline s) (critical s) (size s)) (AllInRange s (size s)) FirstRange
+  ranges-exactly = exactly-first _ _ _ (range-exactly s) (size s)
+
+  pub pairs-exactly : Exactly (pairs (job s) (subtask s) (size s)) ((k : ℕ) → k < size s → New s k) FirstPair
+  pairs-exactly = exactly-first _ _ _ (pair-exactly s) (size s)
 
   pub judged : Exactly (judgement s others) (Fit s others) (Faulty s others)
   unfolding judgement
   judged =
       exactly-so
-      (exactly-or (exactly-test (oneLength s others) Lengths (one-length s others) (all-one-length s others))
-      (exactly-or few-exactly
-      (exactly-or (exactly-first _ _ _ (range-exactly s) (size s)) (exactly-first _ _ _ (pair-exactly s) (size s)))))
+      (exactly-or lengths-exactly (exactly-or few-exactly (exactly-or ranges-exactly pairs-exactly)))
       (λ h. record { lengths = h .0; few = h .1 .0; ranges = h .1 .1 .0; pairs = λ i j a b e f. h .1 .1 .1 j b i a (e, f) })
       (λ h. (h .lengths, (h .few, (h .ranges, λ j b i a q. h .pairs i j a b (q .0) (q .1)))))
       (λ r q.

@@ -3,5 +3,7 @@ pub mod Exactly
 pub mod Fit
 pub mod Reported
 pub mod Differences
+pub mod Pairs
+pub mod Rearranging
 pub mod Bounds
 pub mod LaidOut

@@ -25,7 +25,7 @@ use Rattle.rules.specs.Method.{Outcome, placed, stuck, method}
 use Rattle.olda.specs.Answers as olda
 use Rattle.rules.proofs.Obeys.{method-placed}
 use Rattle.rules.proofs.Accepted.{accepted-six}
-use Rattle.olda.proofs.Results.{passed-ones, refused-within}
+use Rattle.olda.proofs.Results.{refused-within}
 use Rattle.ticks.specs.Runs as ticks
 use Rattle.edf.specs.Answers as edf
 use Rattle.ticks.proofs.Ticks as run
@@ -47,7 +47,7 @@ module _ (s : Subjobs) (ds : List ℕ) (w : Sound s ds) where
 
   placed-six : (length ds ≡ size s) × ((i : ℕ) → i < size s → InTime s ds i)
   placed-six =
-      let q = method-placed s (passed-ones s true (w .passed)) ds .0 (w .is) in
+      let q = method-placed s fits ds .0 (w .is) in
       (q .0, λ i h. accepted-six (terms s) (places (size s)) (q .1) i (in-places (size s) i h) .1)
 
   pub sound-length : length ds ≡ size s

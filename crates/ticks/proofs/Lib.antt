@@ -11,4 +11,5 @@ pub mod Keeps
 pub mod Converse
 pub mod Alone
 pub mod Renaming
+pub mod Rearranging
 pub mod Edges

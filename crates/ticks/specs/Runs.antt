@@ -19,13 +19,13 @@ use lib.Dec.{ltb, eqb}
 use lib.ListN.{getD}
 use Rattle.lists.specs.Places.{places, filter, weight, greatest}
 use Rattle.lists.specs.Order.{by, lex}
-use Rattle.subjobs.specs.Sets.{Subjobs, size, job, subtask, execution}
+use Rattle.subjobs.specs.Sets.{Subjobs, size, job, subtask, execution, byPair}
 use Rattle.subjobs.specs.Terms.{Terms, terms}
 use Rattle.ticks.specs.Core.{Load, Core, start, after, ended}
 
 -- the one with the smallest deadline; ties go to the smaller job, then the smaller subtask
 abbrev pub sooner : (d job subtask : ℕ → ℕ) → ℕ → ℕ → Bool
-sooner d job subtask = lex (by d) (lex (by job) (by subtask))
+sooner d job subtask = lex (by d) (byPair job subtask)
 
 module _ (L : Load) where
   unfoldable pub horizon : ℕ

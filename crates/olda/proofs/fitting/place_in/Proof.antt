@@ -1,7 +1,6 @@
 -- `fitting::place_in` meets its contract: what the steps told is the method's outcome, and the result list is written at
 -- acceptance.
 use borrow.Author.Needs.{needs}
-use native.Mathlib.Omega.{arith}
 use Rattle.olda.proofs.Fitted.{room-raising, room-copying, room-placing, room-refused, room-passed}
 use Rattle.olda.proofs.fitting.place_in.Statement.{statement}
 use Rattle.olda.proofs.fitting.place_in.Tie as tie

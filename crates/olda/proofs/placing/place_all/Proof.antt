@@ -9,14 +9,14 @@ use Rattle.olda.proofs.placing.place_all.Statement.{statement}
 use Rattle.olda.proofs.placing.place_all.Tie as tie
 
 abbrev Inv-loop : tie.InvT-loop
-Inv-loop releases executions bounds order₀ ends₀ local₀ count left₀ order ends local left =
-    Stepping releases executions bounds order₀ local₀ count order ends local left
+Inv-loop jobs subtasks releases executions bounds order₀ ends₀ local₀ count left₀ order ends local left =
+    Stepping jobs subtasks releases executions bounds order₀ local₀ count order ends local left
     × (length order ≡ length order₀)
     × (length ends ≡ length ends₀)
     × (length local ≡ length local₀)
 
 abbrev μ-loop : tie.MeasureT-loop
-μ-loop releases executions bounds order₀ ends₀ local₀ count left₀ order ends local left = left
+μ-loop jobs subtasks releases executions bounds order₀ ends₀ local₀ count left₀ order ends local left = left
 
 -- From a place in the code to the places before it: the start of the turn, the base tail, the base sub-job.
 abbrev turn : tie.After-base-tail Inv-loop μ-loop → tie.In-loop Inv-loop μ-loop
