@@ -16,7 +16,7 @@ use Rattle.lists.proofs.Mapped.{at-map, places-at}
 use Rattle.lists.proofs.Rearranged.{Same}
 use Rattle.lists.proofs.Renamed.{Moved, moved-map}
 
--- Whoever is in a group where nobody stands twice weighs no more than a group that has all of it.
+-- A group in which nobody stands twice weighs no more than a group that has all of it.
 weight-within :
     (f : ℕ → ℕ) (xs ys : List ℕ) → Nodup xs → ((i : ℕ) → List·Memᴰ i xs → List·Memᴰ i ys) → weight f xs ≤ weight f ys
 weight-within f [] ys d of = omega (arith, weight-nil f)

@@ -82,7 +82,7 @@ module _ (s : Subjobs) (ps : List ℕ) (r : Rearranges ps (size s)) where
 
     module _ (f : Fit s (resultsFit s out)) where
       fit-moved : Fit s′ (resultsFit s′ out′)
-      fit-moved = rw fits-alike (rearranged-fit ps s r (resultsFit s out) (f .lengths) f)
+      fit-moved = rw fits-alike (rearranged-fit ps s r f)
 
       late-moves : (p m : ℕ) → method s ≡ stuck p m → Moves
       late-moves p m q =

@@ -78,10 +78,10 @@ module _ (s : Subjobs) (ps ds asks fs fs′ : List ℕ) (t : Totals) (r : Rearra
     -- The run is accepted, or refused by 8: by its ticks, which are the same.
     module _ (f : Fit s (furtherLists s ds asks (length fs))) where
       fit-alike : Fit (rearranged ps s) (furtherLists (rearranged ps s) ds′ asks′ (length fs′))
-      fit-alike = rw further-alike (rearranged-fit ps s r (furtherLists s ds asks (length fs)) l f)
+      fit-alike = rw further-alike (rearranged-fit ps s r f)
 
       moved : run (rearranged ps s) ds′ asks′ ≡ movedRun ps (run s ds asks)
-      moved = run-moved ps s r ds asks (f .few) (f .pairs)
+      moved = run-moved ps s r ds asks f
 
       above-alike : above (added (run (rearranged ps s) ds′ asks′) t) ≡ above (added (run s ds asks) t)
       above-alike = ap (λ (R : Run). above (added R t)) moved
@@ -135,7 +135,7 @@ module _ (s : Subjobs) (ps ds : List ℕ) (l : OneLength s (proposedFit s ds)) (
       let e = rearranged-alike ps s r in
       let F : List ℕ = run s ds (s .executions) .finishes in
       let G : List ℕ = run new proposed (new .executions) .finishes in
-      let same : G ≡ taken ps F = ap (λ (R : Run). R .finishes) (run-moved ps s r ds (s .executions) (f .few) (f .pairs)) in
+      let same : G ≡ taken ps F = ap (λ (R : Run). R .finishes) (run-moved ps s r ds (s .executions) f) in
       same-exactly 7 (seven-exactly s ds) (seven-exactly new proposed)
       (λ h i b.
       let m = in-places (size new) i b in

@@ -91,7 +91,7 @@ module _ (s : Subjobs) (ps : List ℕ) (r : Rearranges ps (size s)) (f : Fit s t
       let e = rearranged-alike ps s r in
       let F : List ℕ = run s ds (s .executions) .finishes in
       let ran : run (rearranged ps s) (taken ps ds) (rearranged ps s .executions) .finishes ≡ taken ps F =
-      ap (λ (R : Run). R .finishes) (run-moved ps s r ds (s .executions) (f .few) (f .pairs))
+      ap (λ (R : Run). R .finishes) (run-moved ps s r ds (s .executions) f)
       in
       rw (
         ran,
@@ -126,7 +126,7 @@ module _ (t t′ : List ℕ) (rows : Rows) (ps : List ℕ) (w : Tabled t rows) (
 
   module _ (f : Fit s true) where
     fit-moved : Fit (rearranged ps s) true
-    fit-moved = rearranged-fit ps s r true (f .lengths) f
+    fit-moved = rearranged-fit ps s r f
 
     late-moves : (p m : ℕ) → method s ≡ stuck p m → TableMoves s ps (answer t) (answer t′)
     late-moves p m q =

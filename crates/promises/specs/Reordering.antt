@@ -2,7 +2,7 @@
 -- said of each sub-job.
 --
 --   Rearranges ps n       == each of the n places stands in ps, once, and no other (lists/specs/Places)
---   taken ps xs           == the list xs in the order of ps: place k has what xs has at the k-th place of ps
+--   taken ps xs           == the list xs in the order of ps: at each place what xs has where ps says
 --   rearranged ps s       == the set with its six lists in that order
 --   Number n v            == the number of an answer with the values v is n
 --   AssignMoves s ps out′ v l v′ l′ == where a call of `assign` on s gives the values v and the list l, the rearranged call
@@ -73,7 +73,7 @@ AssignReorders =
     (olda.values (olda.answer (rearranged ps s) (length out′))) (olda.results (rearranged ps s) out′)
 
 pub data SimulateMoves (ps fs′ : List ℕ) : List ℤ → List ℕ → Totals → List ℤ → List ℕ → Totals → Type 0 where
-  -- refused by 2, 3 or 4: refused by the same number; the totals are what they were
+  -- refused by 2, 3 or 4: refused by the same number; the totals are the same
   faulty :
       {n p f p′ f′ : ℕ} {l : List ℕ} {t : Totals}
       → 2 ≤ n

@@ -40,7 +40,7 @@ alike-renamed e =
 
 module _ (ps : List ℕ) (s : Subjobs) (r : Rearranges ps (size s)) {others : Bool} (f : Fit s others) where
   fit′ : Fit (rearranged ps s) others
-  fit′ = rearranged-fit ps s r others (f .lengths) f
+  fit′ = rearranged-fit ps s r f
 
   -- ρ renames the set's places to the new ones.
   there : Renamed (standing ps) (λ i. getD ps i 0) (terms s) (terms (rearranged ps s)) (places (size s)) (places (size (rearranged ps s)))

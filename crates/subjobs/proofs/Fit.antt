@@ -124,16 +124,13 @@ module _ (s : Subjobs) (p : ℕ) where
       (exactly-unless false (Pair p) (λ e. clash e refl) (λ e. (h .1, h .2, (eqb-true _ _ (b .0), eqb-true _ _ (b .1))))
       (λ n w. n (w .0) (w .1) (w .2))))
 
--- 1 to 4, each of a whole set.
-module _ (s : Subjobs) (others : Bool) where
+-- 2, 3 and 4 of a whole set.
+module _ (s : Subjobs) where
   abbrev FirstRange : Reason → Type 0
-  FirstRange r = (p : ℕ) × (p < size s) × ((k : ℕ) → k < p → InRange (release s k) (execution s k) (deadline s k) (critical s k)) × FirstOut s p r
+  FirstRange r = (p : ℕ) × (p < size s) × AllInRange s p × FirstOut s p r
 
   abbrev FirstPair : Reason → Type 0
   FirstPair r = (p : ℕ) × (p < size s) × ((k : ℕ) → k < p → New s k) × ((r ≡ Pair p) × Seen s p)
-
-  pub lengths-exactly : Exactly (unless (oneLength s others) Lengths) (OneLength s others) (λ r. (r ≡ Lengths) × (OneLength s others → ⊥))
-  lengths-exactly = exactly-test (oneLength s others) Lengths (one-length s others) (all-one-length s others)
 
   pub few-exactly : Exactly (unless (leb (size s) 128) TooMany) (size s ≤ 128) (λ r. (r ≡ TooMany) × (128 < size s))
   few-exactly = exactly-unless (leb (size s) 128) TooMany (λ e. omega tests) (λ e. omega tests) (λ a b. omega arith)
@@ -144,11 +141,16 @@ module _ (s : Subjobs) (others : Bool) where
   pub pairs-exactly : Exactly (pairs (job s) (subtask s) (size s)) ((k : ℕ) → k < size s → New s k) FirstPair
   pairs-exactly = exactly-first _ _ _ (pair-exactly s) (size s)
 
+-- 1, and all four one after the other.
+module _ (s : Subjobs) (others : Bool) where
+  pub lengths-exactly : Exactly (unless (oneLength s others) Lengths) (OneLength s others) (λ r. (r ≡ Lengths) × (OneLength s others → ⊥))
+  lengths-exactly = exactly-test (oneLength s others) Lengths (one-length s others) (all-one-length s others)
+
   pub judged : Exactly (judgement s others) (Fit s others) (Faulty s others)
   unfolding judgement
   judged =
       exactly-so
-      (exactly-or lengths-exactly (exactly-or few-exactly (exactly-or ranges-exactly pairs-exactly)))
+      (exactly-or lengths-exactly (exactly-or (few-exactly s) (exactly-or (ranges-exactly s) (pairs-exactly s))))
       (λ h. record { lengths = h .0; few = h .1 .0; ranges = h .1 .1 .0; pairs = λ i j a b e f. h .1 .1 .1 j b i a (e, f) })
       (λ h. (h .lengths, (h .few, (h .ranges, λ j b i a q. h .pairs i j a b (q .0) (q .1)))))
       (λ r q.

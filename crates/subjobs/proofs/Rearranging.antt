@@ -131,34 +131,33 @@ module _ (ps : List ℕ) (s : Subjobs) (r : Rearranges ps (size s)) where
       long xs = taken-length ps (size s) r xs ∙ sym rearranged-size
 
   -- It passes exactly if the set does, and is refused by the same number.
-  module _ (others : Bool) (l : OneLength s others) where
-    pub rearranged-fit : Fit s others → Fit (rearranged ps s) others
-    rearranged-fit f =
-        record {
-          lengths = rearranged-lengths (l .further);
-          few = omega (arith, rearranged-size, f .few);
-          ranges = alike-ranges rearranged-alike (f .ranges);
-          pairs = alike-pairs rearranged-alike (f .pairs);
-        }
+  pub rearranged-fit : {others : Bool} → Fit s others → Fit (rearranged ps s) others
+  rearranged-fit f =
+      record {
+        lengths = rearranged-lengths (f .lengths .further);
+        few = omega (arith, rearranged-size, f .few);
+        ranges = alike-ranges rearranged-alike (f .ranges);
+        pairs = alike-pairs rearranged-alike (f .pairs);
+      }
 
-    pub rearranged-judged : SameNumber (judgement s others) (judgement (rearranged ps s) others)
-    unfolding judgement
-    rearranged-judged =
-        let s′ = rearranged ps s in
-        let a = rearranged-alike in
-        same-or
-        (same-exactly 1 (lengths-exactly s others) (lengths-exactly s′ others) (λ h. rearranged-lengths (l .further)) (λ h. l)
-        (λ r q. ap numberOf (q .0)) (λ r q. ap numberOf (q .0)))
-        (λ e.
-        same-or
-        (same-exactly 2 (few-exactly s others) (few-exactly s′ others) (λ h. omega (arith, rearranged-size)) (λ h. omega (arith, rearranged-size))
-        (λ r q. ap numberOf (q .0)) (λ r q. ap numberOf (q .0)))
-        (λ e.
-        same-or
-        (same-exactly 3 (ranges-exactly s others) (ranges-exactly s′ others) (alike-ranges a) (alike-ranges (alike-back a))
-        (λ r q. ap numberOf (q .3 .1)) (λ r q. ap numberOf (q .3 .1)))
-        (λ e.
-        same-exactly 4 (pairs-exactly s others) (pairs-exactly s′ others)
-        (λ h k b j c q. alike-pairs a (λ i m c b e f. h m b i c (e, f)) j k c b (q .0) (q .1))
-        (λ h k b j c q. alike-pairs (alike-back a) (λ i m c b e f. h m b i c (e, f)) j k c b (q .0) (q .1))
-        (λ r q. ap numberOf (q .3 .0)) (λ r q. ap numberOf (q .3 .0)))))
+  pub rearranged-judged : (others : Bool) → OneLength s others → SameNumber (judgement s others) (judgement (rearranged ps s) others)
+  unfolding judgement
+  rearranged-judged others l =
+      let s′ = rearranged ps s in
+      let a = rearranged-alike in
+      same-or
+      (same-exactly 1 (lengths-exactly s others) (lengths-exactly s′ others) (λ h. rearranged-lengths (l .further)) (λ h. l)
+      (λ r q. ap numberOf (q .0)) (λ r q. ap numberOf (q .0)))
+      (λ e.
+      same-or
+      (same-exactly 2 (few-exactly s) (few-exactly s′) (λ h. omega (arith, rearranged-size)) (λ h. omega (arith, rearranged-size))
+      (λ r q. ap numberOf (q .0)) (λ r q. ap numberOf (q .0)))
+      (λ e.
+      same-or
+      (same-exactly 3 (ranges-exactly s) (ranges-exactly s′) (alike-ranges a) (alike-ranges (alike-back a))
+      (λ r q. ap numberOf (q .3 .1)) (λ r q. ap numberOf (q .3 .1)))
+      (λ e.
+      same-exactly 4 (pairs-exactly s) (pairs-exactly s′)
+      (λ h k b j c q. alike-pairs a (λ i m c b e f. h m b i c (e, f)) j k c b (q .0) (q .1))
+      (λ h k b j c q. alike-pairs (alike-back a) (λ i m c b e f. h m b i c (e, f)) j k c b (q .0) (q .1))
+      (λ r q. ap numberOf (q .3 .0)) (λ r q. ap numberOf (q .3 .0)))))

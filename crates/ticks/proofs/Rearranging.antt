@@ -1,6 +1,7 @@
 -- The run of a set whose list is rearranged, its deadlines and asks with it: the finishes are the rearranged ones, end, busy
 -- and idle ticks are the same.
 use Prim.Native.Nat.{ℕ, _<_, _≤_}
+use mathlib.Core.Bool.{Bool}
 use mathlib.Core.List.{List}
 use mathlib.Core.Path.{_≡_, refl, sym, ap, _∙_}
 use native.Mathlib.Omega.{arith}
@@ -12,7 +13,7 @@ use Rattle.lists.proofs.Members.{in-places}
 use Rattle.lists.proofs.Renamed.{moved-in}
 use Rattle.lists.proofs.Taken.{standing, taken-length}
 use Rattle.subjobs.specs.Sets.{Subjobs, size, rearranged, job, subtask}
-use Rattle.subjobs.specs.Faults.{NoneTwice}
+use Rattle.subjobs.specs.Faults.{Fit}
 use Rattle.subjobs.proofs.Rearranging.{alike-inside, rearranged-size, taken-there, rearranged-alike}
 use Rattle.ticks.specs.Core.{Load}
 use Rattle.ticks.specs.Runs.{Run, load, runOf, run}
@@ -29,8 +30,8 @@ module _
     (s : Subjobs)
     (r : Rearranges ps (size s))
     (ds asks : List ℕ)
-    (few : size s ≤ 128)
-    (pairs : NoneTwice s (size s)) where
+    {others : Bool}
+    (f : Fit s others) where
   abbrev s′ : Subjobs
   s′ = rearranged ps s
 
@@ -66,13 +67,13 @@ module _
       }
 
   few′ : size s′ ≤ 128
-  few′ = omega (arith, rearranged-size ps s r)
+  few′ = omega (arith, rearranged-size ps s r, f .few)
 
   N : Counters M
   N = counters s′ (taken ps ds) (taken ps asks) few′
 
   K : Counters L
-  K = counters s ds asks few
+  K = counters s ds asks (f .few)
 
   orderM : Order (M .before)
   orderM = sooner-order (λ i. getD (taken ps ds) i 0) (job s′) (subtask s′)
@@ -81,7 +82,7 @@ module _
   orderL = sooner-order (λ i. getD ds i 0) (job s) (subtask s)
 
   total : Total (L .before) (L .on)
-  total = sooner-total (λ i. getD ds i 0) s pairs
+  total = sooner-total (λ i. getD ds i 0) s (f .pairs)
 
   finishes-moved : run s′ (taken ps ds) (taken ps asks) .finishes ≡ taken ps (run s ds asks .finishes)
   finishes-moved =
