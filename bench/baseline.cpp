@@ -1,5 +1,5 @@
-// The baselines. Each reads the 24-byte records, judges numbers 1 to 4 as the rules say, and
-// writes results only on acceptance: the same job as the library does.
+// The baselines on sets. Each reads the 24-byte records, judges numbers 1 to 4 as the rules say,
+// and writes results only on acceptance: the same job as the library does.
 
 #include "baseline.h"
 
@@ -10,12 +10,9 @@
 
 namespace {
 
-constexpr size_t most = CHAROKTAN_SUBJOBS_MAX;
+using baseline::refused;
 
-uint32_t refused(uint32_t number, size_t place)
-{
-    return number + 65536U * static_cast<uint32_t>(place);
-}
+constexpr size_t most = CHAROKTAN_SUBJOBS_MAX;
 
 struct Set {
     size_t count;

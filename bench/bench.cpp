@@ -1,35 +1,53 @@
-// The program that is measured: the library and the baselines on the same random sets.
+// The program that is measured: the library and the baselines on the same random sets and graphs.
 //
 //   bench agree                             all of them answer alike, to the byte
-//   bench calls PROGRAM KIND SIZE ROUNDS    ROUNDS calls of PROGRAM on each of 32 sets of SIZE
+//   bench calls PROGRAM KIND SIZE ROUNDS    ROUNDS calls of PROGRAM on each of 32 sets or graphs
+//                                           of SIZE sub-jobs
 //   bench stack                             the stack that one call takes, at most, in bytes
 //
 // A run of `calls` with 0 rounds makes the same sets and calls nothing, so the difference of two
-// runs is the calls alone. The dice are seeded: every run makes the same sets.
+// runs is the calls alone. The dice are seeded: every run makes the same sets. Sets are made here,
+// graphs in graphs.cpp.
 
 #include "baseline.h"
 #include "charoktan.h"
-#include "dice.h"
-#include "painted.h"
+#include "graphs.h"
+#include "measure.h"
 
-#include <algorithm>
-#include <cstdio>
 #include <cstdlib>
-#include <cstring>
-#include <string_view>
-#include <utility>
-#include <vector>
 
 namespace {
 
+using measure::alike, measure::bytes_of;
+
 using Assign = uint32_t (*)(const uint8_t *, size_t, uint8_t *, size_t);
 using Check = uint32_t (*)(const uint8_t *, size_t, const uint8_t *, size_t);
+
+// What is lent to one call.
+struct Lent {
+    measure::Bytes records;
+    measure::Bytes deadlines;
+
+    bool operator==(const Lent &other) const
+    {
+        return records == other.records && deadlines == other.deadlines;
+    }
+};
 
 // An assignment or a checker, under its name.
 struct Program {
     const char *name;
     Assign assign;
     Check check;
+
+    [[gnu::always_inline]] uint32_t operator()(Lent &lent) const
+    {
+        const auto run = [&lent](auto *door) {
+            return door(lent.records.data(), lent.records.size(), lent.deadlines.data(),
+                        lent.deadlines.size());
+        };
+        return assign != nullptr ? run(assign) : run(check);
+    }
 };
 
 constexpr Program programs[] = {
@@ -44,30 +62,6 @@ constexpr const Program &paper = programs[1];
 constexpr const Program &one_pass = programs[2];
 constexpr const Program &library_check = programs[3];
 constexpr const Program &events = programs[4];
-
-// What is lent to one call, as bytes.
-struct Lent {
-    std::vector<uint8_t> records;
-    std::vector<uint8_t> deadlines;
-};
-
-template <class T> std::vector<uint8_t> bytes_of(const std::vector<T> &items)
-{
-    std::vector<uint8_t> bytes(items.size() * sizeof(T));
-    if (!bytes.empty())
-        std::memcpy(bytes.data(), items.data(), bytes.size());
-    return bytes;
-}
-
-// Inlined, so that the stack is measured from the library's caller on.
-[[gnu::always_inline]] inline uint32_t call(const Program &program, Lent &lent)
-{
-    const auto run = [&lent](auto *door) {
-        return door(lent.records.data(), lent.records.size(), lent.deadlines.data(),
-                    lent.deadlines.size());
-    };
-    return program.assign != nullptr ? run(program.assign) : run(program.check);
-}
 
 using Set = std::vector<charoktan_subjob>;
 
@@ -89,12 +83,11 @@ Set accepted_set(Dice &dice, uint32_t size, std::vector<uint32_t> &deadlines)
         s.release = dice.roll(0, span);
         s.deadline = s.release + s.execution + s.critical + dice.roll(0, sum / 4);
     }
-    for (uint32_t i = size; i > 1; --i)
-        std::swap(set[i - 1], set[dice.roll(0, i - 1)]);
+    measure::shuffle(dice, set);
     Lent lent = {{}, std::vector<uint8_t>(size * 4)};
     for (;;) {
         lent.records = bytes_of(set);
-        if (call(one_pass, lent) == 0)
+        if (one_pass(lent) == 0)
             break;
         for (charoktan_subjob &s : set)
             s.deadline += sum / 16 + 1;
@@ -135,23 +128,6 @@ std::vector<Lent> sets_of(std::string_view kind, uint32_t size)
     return sets;
 }
 
-int calls(std::string_view name, std::string_view kind, uint32_t size, uint32_t rounds)
-{
-    std::vector<Lent> sets = sets_of(kind, size);
-    const auto *program = std::find_if(std::begin(programs), std::end(programs),
-                                       [&](const Program &p) { return name == p.name; });
-    if (program == std::end(programs))
-        return 2;
-    // What memset and memcpy execute hangs on the stack's place in its page: it is the same in every run.
-    alignas(4096) volatile uint8_t pin = 0;
-    uint32_t sum = pin;
-    for (uint32_t round = 0; round < rounds; ++round)
-        for (Lent &lent : sets)
-            sum += call(*program, lent);
-    std::printf("%u\n", sum); // so that no call can be left out
-    return 0;
-}
-
 // A set of any kind, numbers small so that ties and every refusal occur, some lengths damaged.
 Lent any_set(Dice &dice)
 {
@@ -184,43 +160,36 @@ Lent any_set(Dice &dice)
     return lent;
 }
 
-// True if the second program leaves the same number and the same bytes as the first.
-bool alike(const Program &first, const Program &second, Lent lent, uint32_t &number)
-{
-    Lent copy = lent;
-    number = call(first, lent);
-    return call(second, copy) == number && copy.records == lent.records &&
-           copy.deadlines == lent.deadlines;
-}
-
 int agree()
 {
     Dice dice(7);
-    constexpr uint32_t count = 100000;
-    uint32_t tally[2][8] = {};
-    for (uint32_t k = 0; k < count; ++k) {
+    uint32_t assigns[8] = {};
+    uint32_t checks[8] = {};
+    const auto next_is_alike = [&] {
         Lent lent = any_set(dice);
         uint32_t assigned = 0;
         uint32_t checked = 0;
         bool same = alike(library_assign, paper, lent, assigned) &&
                     alike(library_assign, one_pass, lent, assigned);
         if (assigned == 0 && dice.roll(0, 3) == 0)
-            same = same && call(library_assign, lent) == 0; // what was assigned is checked
+            same = same && library_assign(lent) == 0; // what was assigned is checked
         same = same && alike(library_check, events, lent, checked);
-        if (!same) {
-            std::printf("call %u: the library and a baseline differ\n", k);
-            return 1;
-        }
-        ++tally[0][charoktan_number(assigned) % 8];
-        ++tally[1][charoktan_number(checked) % 8];
-    }
-    for (const Program *program : {&library_assign, &library_check}) {
-        std::printf("%s: %u calls agree; by number 0 to 7:", program->name, count);
-        for (uint32_t n : tally[program == &library_check])
-            std::printf(" %u", n);
-        std::printf("\n");
-    }
-    return 0;
+        ++assigns[charoktan_number(assigned) % 8];
+        ++checks[charoktan_number(checked) % 8];
+        return same;
+    };
+    if (!measure::agree(next_is_alike))
+        return 1;
+    measure::print(library_assign.name, "0 to 7", assigns);
+    measure::print(library_check.name, "0 to 7", checks);
+    return graphs::agree();
+}
+
+int calls(std::string_view name, std::string_view kind, uint32_t size, uint32_t rounds)
+{
+    const Program *program = measure::named(programs, name);
+    return program != nullptr ? measure::calls(*program, sets_of(kind, size), rounds)
+                              : graphs::calls(name, kind, size, rounds);
 }
 
 int stack()
@@ -228,11 +197,10 @@ int stack()
     for (const Program &program : programs) {
         size_t most = 0;
         for (const char *kind : {"accepted", "field", "pair", "late", "outside"})
-            for (Lent &lent : sets_of(kind, 128))
-                most = std::max(most, painted::depth([&program, &lent] { call(program, lent); }));
+            most = std::max(most, measure::depth(program, sets_of(kind, 128)));
         std::printf("%s %zu\n", program.name, most);
     }
-    return 0;
+    return graphs::stack();
 }
 
 } // namespace

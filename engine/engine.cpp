@@ -3,37 +3,19 @@
 // pipelines built, its data unpacked and uploaded, all on one core. Before a room is loaded the
 // engine asks charoktan for a local deadline per stage; then it serves, in each tick, the waiting
 // stage whose deadline comes first. A door that opens before its upload has ended is a hitch.
+// play.cpp is the core, graph.cpp the rooms whose stages fork and join.
 //
 // A stage is a sub-job: it is released when the stages before it can have ended at the earliest,
 // and its critical time is what the stages after it may take. How long it really takes is rolled;
 // it is cut off at its execution time. The dice are seeded: every run prints the same text.
 
-#include "charoktan.h"
 #include "dice.h"
+#include "graph.h"
 
 #include <algorithm>
-#include <array>
 #include <cstdio>
-#include <queue>
-#include <tuple>
-#include <vector>
 
 namespace {
-
-constexpr uint32_t stage_count = 4;
-constexpr std::array<const char *, stage_count> stage_names = {"fetch", "pipeline build", "unpack",
-                                                               "upload"};
-
-struct Door {
-    uint32_t number;
-    uint32_t seen;   // the moment from which its job may be served
-    uint32_t opened; // the moment at which it must be there
-    std::array<uint32_t, stage_count> longest;
-};
-
-using Room = std::vector<Door>;
-using Set = std::vector<charoktan::subjob>;
-using Moments = std::vector<uint32_t>;
 
 // A room's stages as the library's sub-jobs, four places per door.
 Set subjobs_of(const Room &room)
@@ -72,60 +54,6 @@ Moments shared_by_length(const Room &room)
     return moments;
 }
 
-// What a run of the core came to.
-struct Play {
-    Moments ended;
-    uint32_t ticks = 0;
-    uint32_t late = 0;    // stages that ended after their local deadline
-    uint32_t unready = 0; // ticks served to a stage whose forerunner had not ended
-    uint32_t hitches = 0; // doors that opened before their upload had ended
-};
-
-// A waiting stage; the one to serve has the smallest (deadline, job, subtask).
-struct Waiting {
-    uint32_t deadline, job, subtask;
-    size_t place;
-
-    bool operator>(const Waiting &other) const
-    {
-        return std::tie(deadline, job, subtask) >
-               std::tie(other.deadline, other.job, other.subtask);
-    }
-};
-
-// The core, tick by tick: stages join the queue at their release and leave it when they have taken
-// what they take.
-Play play(const Set &set, const Moments &deadlines, const Moments &taken)
-{
-    Play result;
-    result.ended.assign(set.size(), 0);
-    Moments left = taken;
-    std::priority_queue<Waiting, std::vector<Waiting>, std::greater<Waiting>> queue;
-    size_t unended = set.size();
-    for (uint32_t tick = 0; unended > 0; ++tick) {
-        for (size_t place = 0; place < set.size(); ++place)
-            if (set[place].release == tick)
-                queue.push({deadlines[place], set[place].job, set[place].subtask, place});
-        result.ticks = tick + 1;
-        if (queue.empty())
-            continue;
-        const size_t place = queue.top().place;
-        if (set[place].subtask > 0 && left[place - 1] > 0)
-            ++result.unready;
-        if (--left[place] > 0)
-            continue;
-        queue.pop();
-        --unended;
-        const uint32_t moment = tick + 1;
-        result.ended[place] = moment;
-        if (moment > deadlines[place])
-            ++result.late;
-        if (set[place].subtask == stage_count - 1 && moment > set[place].deadline)
-            ++result.hitches;
-    }
-    return result;
-}
-
 // Rolled lengths: some stages are quick, some would take longer than they may and are cut off.
 Moments rolled(Dice &dice, const Set &set, uint32_t &cut)
 {
@@ -138,47 +66,13 @@ Moments rolled(Dice &dice, const Set &set, uint32_t &cut)
     return taken;
 }
 
-Moments in_full(const Set &set)
-{
-    Moments taken;
-    for (const charoktan::subjob &subjob : set)
-        taken.push_back(subjob.execution);
-    return taken;
-}
-
-void print_answer(const char *what, const Set &set, charoktan::answer answer)
-{
-    if (answer.accepted()) {
-        std::printf("%s: accepted\n", what);
-        return;
-    }
-    std::printf("%s: refused by number %u at place %u", what,
-                static_cast<unsigned>(answer.number()), static_cast<unsigned>(answer.place()));
-    if (answer.number() >= charoktan::refusal::field) {
-        const charoktan::subjob &at = set[answer.place()];
-        std::printf(" (door %u, %s)", static_cast<unsigned>(at.job),
-                    stage_names[at.subtask % stage_count]);
-    }
-    std::printf(": %s\n", answer.text());
-}
-
-void print_run(const Set &set, const Moments &deadlines, const Moments &taken, const Play &run)
-{
-    std::printf("  door  stage           release  longest  bound  deadline  took  ended\n");
-    for (size_t place = 0; place < set.size(); ++place)
-        std::printf("  %4u  %-14s  %7u  %7u  %5d  %8u  %4u  %5u\n", set[place].job,
-                    stage_names[set[place].subtask], set[place].release, set[place].execution,
-                    static_cast<int>(set[place].deadline) - static_cast<int>(set[place].critical),
-                    deadlines[place], taken[place], run.ended[place]);
-    std::printf("  %u ticks, %u late stages, %u hitches\n", run.ticks, run.late, run.hitches);
-}
-
 // One room from its doors to its last upload. True if it went as promised.
 bool show_room(Dice &dice)
 {
     const Room room = {
         {1, 0, 30, {6, 4, 5, 3}}, {2, 4, 18, {3, 2, 5, 2}}, {3, 10, 43, {2, 3, 2, 4}}};
     const Set set = subjobs_of(room);
+    const Arcs arcs = chains_of(set);
     Moments deadlines(set.size());
     const charoktan::answer answer = charoktan::assign(set, deadlines);
     print_answer("a room of three doors", set, answer);
@@ -186,10 +80,10 @@ bool show_room(Dice &dice)
         return false;
     uint32_t cut = 0;
     const Moments taken = rolled(dice, set, cut);
-    const Play run = play(set, deadlines, taken);
+    const Play run = play(set, arcs, deadlines, taken);
     print_run(set, deadlines, taken, run);
 
-    const Play longest = play(set, deadlines, in_full(set));
+    const Play longest = play(set, arcs, deadlines, in_full(set));
     std::printf("  with every stage at its longest: %u late stages, %u hitches, every end %s its "
                 "deadline\n",
                 longest.late, longest.hitches, longest.ended == deadlines ? "on" : "NOT on");
@@ -197,7 +91,7 @@ bool show_room(Dice &dice)
     const Moments shared = shared_by_length(room);
     print_answer("the same room, each door's time shared by length", set,
                  charoktan::check(set, shared));
-    const Play blind = play(set, shared, in_full(set));
+    const Play blind = play(set, arcs, shared, in_full(set));
     std::printf("  with every stage at its longest: %u late stages, %u hitches\n\n", blind.late,
                 blind.hitches);
     const bool kept = run.late + run.hitches + run.unready + longest.late + longest.hitches == 0;
@@ -298,7 +192,8 @@ Room random_room(Dice &dice)
     return room;
 }
 
-// A long play: rooms by the dice, each loaded if it is accepted.
+// A long play: rooms by the dice, each loaded if it is accepted. The critical times that the
+// library finds from a room's chains are those that subjobs_of adds up.
 bool play_rooms(Dice &dice, uint32_t rooms)
 {
     uint32_t accepted = 0, late = 0, unready = 0, hitches = 0, cut = 0;
@@ -306,22 +201,23 @@ bool play_rooms(Dice &dice, uint32_t rooms)
     bool kept = true;
     for (uint32_t k = 0; k < rooms; ++k) {
         const Set set = subjobs_of(random_room(dice));
+        const Arcs arcs = chains_of(set);
         Moments deadlines(set.size(), 0);
         const charoktan::answer answer = charoktan::assign(set, deadlines);
-        kept = kept && same_in_another_build(set, answer, deadlines);
+        kept = kept && found_as_typed(set, arcs) && same_in_another_build(set, answer, deadlines);
         if (!answer.accepted()) {
             kept = kept && answer.number() == charoktan::refusal::late;
             continue;
         }
         ++accepted;
         stages += set.size();
-        const Play run = play(set, deadlines, rolled(dice, set, cut));
+        const Play run = play(set, arcs, deadlines, rolled(dice, set, cut));
         ticks += run.ticks;
         late += run.late;
         unready += run.unready;
         hitches += run.hitches;
         kept = kept && charoktan::check(set, deadlines).accepted() &&
-               play(set, deadlines, in_full(set)).ended == deadlines;
+               play(set, arcs, deadlines, in_full(set)).ended == deadlines;
     }
     std::printf("%u rooms: %u accepted, %u refused by number 5\n", rooms, accepted,
                 rooms - accepted);
@@ -330,6 +226,20 @@ bool play_rooms(Dice &dice, uint32_t rooms)
                 static_cast<unsigned long long>(stages), cut,
                 static_cast<unsigned long long>(ticks), late, unready, hitches);
     return kept && late + unready + hitches == 0;
+}
+
+// And rooms whose stages fork and join, their critical times found from their graphs.
+bool play_forked(Dice &dice, uint32_t rooms)
+{
+    uint32_t accepted = 0, broken = 0;
+    for (uint32_t k = 0; k < rooms; ++k) {
+        const Forked forked = load_forked(random_room(dice));
+        accepted += forked.accepted;
+        broken += !forked.kept;
+    }
+    std::printf("%u rooms that fork and join: %u accepted, %u not as promised\n", rooms, accepted,
+                broken);
+    return broken == 0;
 }
 
 } // namespace
@@ -341,8 +251,10 @@ int main()
     const bool refusals = show_refusals();
     const bool nothing = show_nothing();
     const bool builds = show_two_builds();
+    const bool graphs = show_graphs();
     const bool rooms = play_rooms(dice, 2000);
-    const bool kept = room && refusals && nothing && builds && rooms;
+    const bool forked = play_forked(dice, 500);
+    const bool kept = room && refusals && nothing && builds && graphs && rooms && forked;
     std::printf("%s\n", kept ? "every promise was kept" : "A PROMISE WAS BROKEN");
     return kept ? 0 : 1;
 }

@@ -1,14 +1,16 @@
-// The stack figures of charoktan.h, held to what calls of both entries take: sets of 0 to 128
-// sub-jobs and more, accepted and refused by every number of the door.
+// The stack figures of charoktan.h, held to what calls of each entry take: sets of 0 to 128
+// sub-jobs and more, graphs of 0 to 1,024 arcs and more, accepted and refused by every number.
 #include "charoktan.h"
 #include "painted.h"
 
 #include <cstdio>
+#include <initializer_list>
 #include <vector>
 
 namespace {
 
 using Set = std::vector<charoktan_subjob>;
+using Arcs = std::vector<charoktan_arc>;
 using Moments = std::vector<uint32_t>;
 
 // n sub-jobs with room enough, released four at a time.
@@ -20,76 +22,132 @@ Set accepted_set(uint32_t n)
     return set;
 }
 
-// The most that a call of each entry took so far.
+// The most that a call of an entry took so far.
 struct Measured {
-    size_t assign = 0, check = 0;
+    size_t most = 0;
     uint32_t numbers = 0; // one bit per number that was returned
 
-    // Both entries on a set with these deadlines, or with fewer bytes of them.
-    void add(const Set &set, Moments deadlines, size_t less = 0)
+    template <class Call> void add(const Call &call)
     {
-        const auto *records = reinterpret_cast<const uint8_t *>(set.data());
-        auto *bytes = reinterpret_cast<uint8_t *>(deadlines.data());
-        const size_t length = deadlines.size() * 4 - less;
         uint32_t returned = 0;
-        check = std::max(check, painted::depth([&] {
-                             returned = charoktan_check(records, set.size() * 24, bytes, length);
-                         }));
-        numbers |= 1U << charoktan_number(returned);
-        assign = std::max(assign, painted::depth([&] {
-                              returned = charoktan_assign(records, set.size() * 24, bytes, length);
-                          }));
+        most = std::max(most, painted::depth([&] { returned = call(); }));
         numbers |= 1U << charoktan_number(returned);
     }
 };
 
-void measure(Measured &measured, uint32_t n)
+Measured assign, check, critical;
+
+// Both entries on a set with these deadlines, or with fewer bytes of them.
+void add_set(const Set &set, Moments deadlines, size_t less = 0)
+{
+    const auto *records = reinterpret_cast<const uint8_t *>(set.data());
+    auto *bytes = reinterpret_cast<uint8_t *>(deadlines.data());
+    const size_t length = deadlines.size() * 4 - less;
+    check.add([&] { return charoktan_check(records, set.size() * 24, bytes, length); });
+    assign.add([&] { return charoktan_assign(records, set.size() * 24, bytes, length); });
+}
+
+void measure_sets(uint32_t n)
 {
     const Set set = accepted_set(n);
     Moments assigned(n);
     if (!charoktan::assign(set, assigned).accepted() && n <= CHAROKTAN_SUBJOBS_MAX)
         std::abort();
-    measured.add(set, assigned);
+    add_set(set, assigned);
     if (n == 0)
         return;
-    measured.add(set, assigned, 4); // number 1
+    add_set(set, assigned, 4); // number 1
     Set other = set;
     other.back().critical = 1000000001;
-    measured.add(other, assigned); // number 3
+    add_set(other, assigned); // number 3
     if (n > 1) {
         other = set;
         other.back() = other[n - 2];
-        measured.add(other, assigned); // number 4
+        add_set(other, assigned); // number 4
     }
     other = set;
     for (charoktan_subjob &subjob : other)
         subjob.deadline = 0;
-    measured.add(other, assigned); // numbers 5 and 6
+    add_set(other, assigned); // numbers 5 and 6
     Moments early;
     for (const charoktan_subjob &subjob : set)
         early.push_back(subjob.release + subjob.execution);
-    measured.add(set, early); // number 7, if there are two
+    add_set(set, early); // number 7, if there are two
 }
 
-bool holds(const char *entry, size_t measured, size_t figure)
+void add_graph(const Moments &executions, const Arcs &arcs, size_t less = 0)
 {
-    const bool kept = measured <= figure && 4 * measured >= 3 * figure;
-    std::printf("%s takes %zu bytes of stack, charoktan.h says %zu%s\n", entry, measured, figure,
-                kept ? "" : ": WRONG");
-    return kept;
+    Moments results(executions.size());
+    critical.add([&] {
+        return charoktan_critical(
+            reinterpret_cast<const uint8_t *>(executions.data()), executions.size() * 4,
+            reinterpret_cast<const uint8_t *>(arcs.data()), arcs.size() * 12,
+            reinterpret_cast<uint8_t *>(results.data()), results.size() * 4 - less);
+    });
+}
+
+// m arcs between n sub-jobs, each to a later place: a chain, and then by ever longer steps. Where
+// there are no two sub-jobs, arcs that name none.
+Arcs arcs_of(uint32_t n, uint32_t m)
+{
+    Arcs arcs(m, {0, n, 1});
+    for (uint32_t i = 0; n > 1 && i < m; ++i) {
+        const uint32_t before = i % (n - 1);
+        arcs[i] = {before, std::min(n - 1, before + 1 + i / (n - 1)), i % 7};
+    }
+    return arcs;
+}
+
+void measure_graphs(uint32_t n, uint32_t m)
+{
+    Moments executions(n, 5);
+    Arcs arcs = arcs_of(n, m);
+    add_graph(executions, arcs);
+    if (n == 0)
+        return;
+    add_graph(executions, arcs, 4); // number 1
+    executions.back() = 0;
+    add_graph(executions, arcs); // number 3
+    executions.back() = 5;
+    if (arcs.empty())
+        return;
+    arcs.back().hop = 100001;
+    add_graph(executions, arcs); // number 3
+    arcs.back() = {0, n, 1};
+    add_graph(executions, arcs); // number 20
+    arcs.back() = {n - 1, 0, 1};
+    add_graph(executions, arcs); // number 21, if a path leads there
+    arcs.back() = {0, 0, 1};
+    add_graph(executions, arcs); // number 21
+}
+
+// The figure is kept, and these numbers came and no other.
+bool holds(const char *entry, const Measured &measured, size_t figure,
+           std::initializer_list<uint32_t> all)
+{
+    uint32_t numbers = 0;
+    for (uint32_t number : all)
+        numbers |= 1U << number;
+    const bool kept = measured.most <= figure && 4 * measured.most >= 3 * figure;
+    std::printf("%s takes %zu bytes of stack, charoktan.h says %zu%s\n", entry, measured.most,
+                figure, kept ? "" : ": WRONG");
+    if (measured.numbers != numbers)
+        std::printf("the numbers of %s that came are %#x, not %#x\n", entry, measured.numbers,
+                    numbers);
+    return kept && measured.numbers == numbers;
 }
 
 } // namespace
 
 int main()
 {
-    Measured measured;
     for (uint32_t n : {0, 1, 2, 3, 4, 7, 8, 9, 10, 16, 17, 64, 127, 128, 129})
-        measure(measured, n);
-    const bool all = measured.numbers == 0xff; // accepted, and refused by 1 to 7
-    if (!all)
-        std::printf("a number of the door did not come: %#x\n", measured.numbers);
-    const bool assign = holds("charoktan_assign", measured.assign, CHAROKTAN_STACK_ASSIGN);
-    const bool check = holds("charoktan_check", measured.check, CHAROKTAN_STACK_CHECK);
-    return all && assign && check ? 0 : 1;
+        measure_sets(n);
+    for (uint32_t n : {0, 1, 2, 8, 9, 64, 128, 129})
+        for (uint32_t m : {0, 1, 127, 1024, 1025})
+            measure_graphs(n, m);
+    bool kept = holds("charoktan_assign", assign, CHAROKTAN_STACK_ASSIGN, {0, 1, 2, 3, 4, 5});
+    kept &= holds("charoktan_check", check, CHAROKTAN_STACK_CHECK, {0, 1, 2, 3, 4, 6, 7});
+    kept &= holds("charoktan_critical", critical, CHAROKTAN_STACK_CRITICAL, {0, 1, 2, 3, 20, 21});
+    return kept ? 0 : 1;
 }

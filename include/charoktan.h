@@ -4,16 +4,18 @@
  * Windows, and of the C library it needs at most memcpy and memset. A set is 0 to 128 sub-jobs, an
  * array of the struct below; places in it count from 0, time is counted in whole ticks.
  * charoktan_assign gives every sub-job its local deadline or refuses the set, charoktan_check
- * judges deadlines that anybody proposes. The number that they return and every byte that they
+ * judges deadlines that anybody proposes, and charoktan_critical finds the sub-jobs' critical times
+ * from the graph of what comes before what. The number that they return and every byte that they
  * write are proved, for all bytes and all lengths lent to them. docs/RULES.md has the rules.
  *
  * What the caller owes
  *
- *   - `records` points to `records_len` bytes that may be read, `deadlines` to `deadlines_len`
- *     bytes that may be read and, by charoktan_assign, written, until the call returns.
- *   - The two slices do not overlap.
- *   - During the call no other thread writes to either of them, nor reads the deadlines that
- *     charoktan_assign is writing.
+ *   - A call is lent two or three slices, each a pointer and a length. Each pointer points to that
+ *     many bytes that may be read until the call returns; the deadlines of charoktan_assign and the
+ *     results of charoktan_critical may be written too.
+ *   - No two slices of a call overlap.
+ *   - During the call no other thread writes to any of them, nor reads the deadlines or results
+ *     that it is writing.
  *   - A null pointer comes only with length 0; it is then the slice of no bytes.
  *   - The stack has room for one call: enum charoktan_stack below, as measured.
  *
@@ -22,15 +24,16 @@
  *
  * What the caller gets
  *
- *   - Nothing outside the two slices is touched, and the records are never written. After
- *     acceptance charoktan_assign has written all the deadlines; after a refusal they hold what
- *     they held before. charoktan_check writes nothing.
+ *   - Nothing outside the slices of the call is touched, and records, executions and arcs are never
+ *     written. After acceptance charoktan_assign has written all the deadlines and
+ *     charoktan_critical all the results; after a refusal they hold what they held before.
+ *     charoktan_check writes nothing.
  *   - No memory is allocated, no exception thrown, no state kept: any number of threads may call
- *     at once, also on the same records.
+ *     at once, also on the same records, executions and arcs.
  *
  * Sanitizers: the archive is not instrumented. They do not see what it reads and writes, and
- * MemorySanitizer takes the deadlines that it wrote for uninitialised: after an acceptance call
- * __msan_unpoison on them.
+ * MemorySanitizer takes the deadlines and critical times that it wrote for uninitialised: after an
+ * acceptance call __msan_unpoison on them.
  */
 #ifndef CHAROKTAN_H
 #define CHAROKTAN_H
@@ -84,45 +87,74 @@ typedef struct charoktan_subjob {
 
 static_assert(sizeof(charoktan_subjob) == 24, "charoktan.h: six 32-bit numbers, no padding");
 
-/* The most sub-jobs of a set. */
-enum { CHAROKTAN_SUBJOBS_MAX = 128 };
+/* An arc of a graph: one sub-job comes before another. Both are named by their places. */
+typedef struct charoktan_arc {
+    uint32_t before; /* the place of the one that comes first */
+    uint32_t after;  /* the place of the one that follows it */
+    uint32_t hop;    /* ticks from the end of the first until the other can start: 0 to 100,000 */
+} charoktan_arc;
 
-/* The stack that one call takes at most, in bytes, on any set, with its return address and what
- * memcpy and memset take. A small set takes as much as a large one. engine/stack.cpp measures it on
- * painted stacks: the gate fails if a call takes more, or if no call takes three quarters. Where
- * memset is bound at its first call, the dynamic linker's own stack comes on top (-Wl,-z,now binds
- * it before). */
+static_assert(sizeof(charoktan_arc) == 12, "charoktan.h: three 32-bit numbers, no padding");
+
+/* The most sub-jobs of a set, and the most arcs of a graph. */
+enum { CHAROKTAN_SUBJOBS_MAX = 128, CHAROKTAN_ARCS_MAX = 1024 };
+
+/* The stack that one call takes at most, in bytes, on any set or graph, with its return address and
+ * what memcpy and memset take. A small set or graph may take as much as a large one. engine/stack.cpp
+ * measures it on painted stacks: the gate fails if a call takes more, or if no call takes three
+ * quarters. Where memset is bound at its first call, the dynamic linker's own stack comes on top
+ * (-Wl,-z,now binds it before). */
 enum charoktan_stack {
-    CHAROKTAN_STACK_ASSIGN = 6656, /* charoktan_assign */
-    CHAROKTAN_STACK_CHECK = 6144   /* charoktan_check */
+    CHAROKTAN_STACK_ASSIGN = 6656,   /* charoktan_assign */
+    CHAROKTAN_STACK_CHECK = 6144,    /* charoktan_check */
+    CHAROKTAN_STACK_CRITICAL = 20480 /* charoktan_critical */
 };
 
 /* The numbers that the door gives, and the place that comes with each. They are judged in this
- * order; 5 is charoktan_assign's alone, 6 and 7 are charoktan_check's. */
+ * order. 1 to 3 are every entry's; 4 is that of charoktan_assign and charoktan_check, 5 is the
+ * first's alone, 6 and 7 are the second's; 20 and 21 are charoktan_critical's. */
 enum charoktan_refusal {
-    CHAROKTAN_ACCEPTED = 0, /* no refusal (place 0); a set of no sub-jobs is accepted */
-    CHAROKTAN_LENGTHS = 1,  /* not 24 bytes of records and 4 of deadlines per sub-job (place 0) */
-    CHAROKTAN_TOO_MANY = 2, /* more than 128 sub-jobs (place 0) */
-    CHAROKTAN_FIELD = 3,    /* a field is out of range (smallest such place) */
+    CHAROKTAN_ACCEPTED = 0, /* no refusal (place 0); no sub-jobs, with no arcs, are accepted */
+    CHAROKTAN_LENGTHS = 1,  /* not the bytes per sub-job and arc that the entry says (place 0) */
+    CHAROKTAN_TOO_MANY = 2, /* more than 128 sub-jobs, or more than 1,024 arcs (place 0) */
+    CHAROKTAN_FIELD = 3,    /* a field is out of range (smallest such place; a hop: its arc's) */
     CHAROKTAN_PAIR = 4,     /* the pair (job, subtask) was seen earlier (smallest later place) */
     CHAROKTAN_LATE = 5,     /* the base sub-job's upper bound is below the completion (its place) */
     CHAROKTAN_OUTSIDE = 6,  /* not release + execution <= deadline <= upper bound (smallest) */
-    CHAROKTAN_MISSED = 7    /* served in full by these deadlines it ends after its own (smallest) */
+    CHAROKTAN_MISSED = 7,   /* served in full by these deadlines it ends after its own (smallest) */
+    CHAROKTAN_STRAY = 20,   /* an arc names no sub-job (smallest such arc's place) */
+    CHAROKTAN_CYCLE = 21    /* a path comes back to its start (place 0) */
 };
 
-/* Assigns: writes a local deadline per sub-job, 4 bytes each (a uint32_t), in the records' order.
- * Returns 0, or the refusal's number plus 65,536 times its place. Lengths are in bytes. The order of
- * the records does not matter: in another order each sub-job gets the same deadline. */
+/* Assigns: reads a charoktan_subjob per sub-job, 24 bytes each, and writes its local deadline, 4
+ * bytes each (a uint32_t), in the records' order. Returns 0, or the refusal's number plus 65,536
+ * times its place. Lengths are in bytes. The order of the records does not matter: in another order
+ * each sub-job gets the same deadline. */
 CHAROKTAN_NODISCARD uint32_t charoktan_assign(const uint8_t *records, size_t records_len,
                                               uint8_t *deadlines,
                                               size_t deadlines_len) CHAROKTAN_NOEXCEPT;
 
-/* Judges proposed deadlines, 4 bytes per sub-job: returns 0 exactly when, numbers 1 to 4 passed,
- * every one lies between release + execution and the upper bound, and of every non-empty subset
- * the greatest deadline minus the smallest release is at least the sum of the executions. */
+/* Judges proposed deadlines, 4 bytes per sub-job and record of 24: returns 0 exactly when, numbers
+ * 1 to 4 passed, every one lies between release + execution and the upper bound, and of every
+ * non-empty subset the greatest deadline minus the smallest release is at least the sum of the
+ * executions. */
 CHAROKTAN_NODISCARD uint32_t charoktan_check(const uint8_t *records, size_t records_len,
                                              const uint8_t *deadlines,
                                              size_t deadlines_len) CHAROKTAN_NOEXCEPT;
+
+/* Finds critical times: reads an execution per sub-job, 4 bytes each (a uint32_t, 1 to 1,000,000),
+ * and the charoktan_arcs between them, 12 bytes each, and writes a critical time per sub-job, 4
+ * bytes each. It is the greatest sum along any path of arcs that starts at the sub-job: the hops,
+ * the first one's too, and the executions of those that follow, its own not counted. It is 0
+ * exactly where nothing follows, and never above 139,700,000, so that it goes into `critical` as it
+ * is. The order of the arcs does not matter. They may come twice; of two hops between the same
+ * sub-jobs the greater counts. Number 3 is an execution's if there is one at its place and it is
+ * out of range; otherwise they are all in range, and it is the hop of the arc at that place. The
+ * other entries read no arcs: what they know of them is the critical times. */
+CHAROKTAN_NODISCARD uint32_t charoktan_critical(const uint8_t *executions, size_t executions_len,
+                                                const uint8_t *arcs, size_t arcs_len,
+                                                uint8_t *results,
+                                                size_t results_len) CHAROKTAN_NOEXCEPT;
 
 /* The refusal number in what the door returned: one of enum charoktan_refusal. */
 CHAROKTAN_INLINE uint32_t charoktan_number(uint32_t returned) CHAROKTAN_NOEXCEPT
@@ -130,7 +162,7 @@ CHAROKTAN_INLINE uint32_t charoktan_number(uint32_t returned) CHAROKTAN_NOEXCEPT
     return returned % 65536U;
 }
 
-/* The place in what the door returned. */
+/* The place in what the door returned: a sub-job's, or an arc's. */
 CHAROKTAN_INLINE uint32_t charoktan_place(uint32_t returned) CHAROKTAN_NOEXCEPT
 {
     return returned / 65536U;
@@ -140,15 +172,19 @@ CHAROKTAN_INLINE uint32_t charoktan_place(uint32_t returned) CHAROKTAN_NOEXCEPT
 CHAROKTAN_INLINE const char *charoktan_refusal_text(uint32_t number) CHAROKTAN_NOEXCEPT
 {
     switch (number) {
-    case CHAROKTAN_ACCEPTED: return "The set is accepted.";
-    case CHAROKTAN_LENGTHS: return "The lengths are not 24 bytes of records and 4 of deadlines per sub-job.";
-    case CHAROKTAN_TOO_MANY: return "The set has more than 128 sub-jobs.";
-    case CHAROKTAN_FIELD: return "A field of this sub-job is out of its range.";
+    case CHAROKTAN_ACCEPTED: return "The call is accepted.";
+    case CHAROKTAN_LENGTHS:
+        return "The lengths leave bytes over, or are not one deadline or result per sub-job.";
+    case CHAROKTAN_TOO_MANY: return "There are more than 128 sub-jobs, or more than 1,024 arcs.";
+    case CHAROKTAN_FIELD:
+        return "A field of this sub-job, or the hop delay of this arc, is out of its range.";
     case CHAROKTAN_PAIR: return "An earlier sub-job has the same job and subtask.";
     case CHAROKTAN_LATE: return "There is too much work to be done by this sub-job's upper bound.";
     case CHAROKTAN_OUTSIDE:
         return "The deadline is not between release plus execution and the upper bound.";
     case CHAROKTAN_MISSED: return "By these deadlines this sub-job would end after its own.";
+    case CHAROKTAN_STRAY: return "This arc names a place at which there is no sub-job.";
+    case CHAROKTAN_CYCLE: return "Some path of arcs comes back to the sub-job that it starts at.";
     default: return "This is no number of the door.";
     }
 }
@@ -161,11 +197,13 @@ CHAROKTAN_INLINE const char *charoktan_refusal_text(uint32_t number) CHAROKTAN_N
 #include <span>
 #endif
 
-/* The same door with types: sub-jobs in, uint32_t deadlines out, counts in the place of bytes. The
- * caller owes what is written above. Nothing is copied. */
+/* The same door with types: sub-jobs in, uint32_t deadlines out; uint32_t executions and arcs in,
+ * uint32_t critical times out; counts in the place of bytes. The caller owes what is written above.
+ * Nothing is copied. */
 namespace charoktan {
 
 using subjob = charoktan_subjob;
+using arc = charoktan_arc;
 
 enum class refusal : uint32_t {
     none = CHAROKTAN_ACCEPTED,
@@ -175,7 +213,9 @@ enum class refusal : uint32_t {
     pair = CHAROKTAN_PAIR,
     late = CHAROKTAN_LATE,
     outside = CHAROKTAN_OUTSIDE,
-    missed = CHAROKTAN_MISSED
+    missed = CHAROKTAN_MISSED,
+    stray = CHAROKTAN_STRAY,
+    cycle = CHAROKTAN_CYCLE
 };
 
 /* What the door returned, taken apart. */
@@ -213,6 +253,16 @@ private:
         reinterpret_cast<const uint8_t *>(deadlines), deadlines_count * sizeof(uint32_t)));
 }
 
+[[nodiscard]] inline answer critical(const uint32_t *executions, size_t executions_count,
+                                     const arc *arcs, size_t arcs_count, uint32_t *results,
+                                     size_t results_count) noexcept
+{
+    return answer(charoktan_critical(
+        reinterpret_cast<const uint8_t *>(executions), executions_count * sizeof(uint32_t),
+        reinterpret_cast<const uint8_t *>(arcs), arcs_count * sizeof(arc),
+        reinterpret_cast<uint8_t *>(results), results_count * sizeof(uint32_t)));
+}
+
 #if defined(__cpp_lib_span)
 
 [[nodiscard]] inline answer assign(std::span<const subjob> subjobs,
@@ -225,6 +275,14 @@ private:
                                   std::span<const uint32_t> deadlines) noexcept
 {
     return check(subjobs.data(), subjobs.size(), deadlines.data(), deadlines.size());
+}
+
+[[nodiscard]] inline answer critical(std::span<const uint32_t> executions,
+                                     std::span<const arc> arcs,
+                                     std::span<uint32_t> results) noexcept
+{
+    return critical(executions.data(), executions.size(), arcs.data(), arcs.size(), results.data(),
+                    results.size());
 }
 
 #else /* C++17: any range that std::data and std::size know, as arrays and vectors are */
@@ -241,6 +299,14 @@ template <class Subjobs, class Deadlines>
 {
     return check(std::data(subjobs), std::size(subjobs), std::data(deadlines),
                  std::size(deadlines));
+}
+
+template <class Executions, class Arcs, class Results>
+[[nodiscard]] answer critical(const Executions &executions, const Arcs &arcs,
+                              Results &&results) noexcept
+{
+    return critical(std::data(executions), std::size(executions), std::data(arcs), std::size(arcs),
+                    std::data(results), std::size(results));
 }
 
 #endif

@@ -2,7 +2,7 @@
 // First the edges by hand, then random cases around them, then some rearranged; the seed is fixed.
 // Whole tables by another seed are written in the same form and stored nowhere.
 #include "commands.hpp"
-#include "sets.hpp"
+#include "graphs.hpp"
 #include "trial.hpp"
 
 #include <algorithm>
@@ -12,7 +12,6 @@
 #include <numeric>
 #include <stdexcept>
 
-static constexpr u32 LARGEST = 4'294'967'295;
 static constexpr u64 LARGEST_64 = 18'446'744'073'709'551'615u;
 static constexpr u64 MOST_TICKS = 1'000'000'000'000'000'000;
 
@@ -378,16 +377,6 @@ static Set random_case(Dice& dice) {
     return set;
 }
 
-// One of the lists made longer or shorter.
-static void make_unequal(Dice& dice, const std::vector<List*>& all) {
-    List& list = *all[dice.below(static_cast<u32>(all.size()))];
-    const std::size_t length = list.size();
-    if (dice.chance(50))
-        list.resize(length + 1 + dice.below(3), 1);
-    else
-        list.resize(length - std::min<std::size_t>(length, 1));
-}
-
 static std::vector<List*> with(Set& set, std::vector<List*> others) {
     for (List* list : lists(set)) others.push_back(list);
     return others;
@@ -624,8 +613,8 @@ static void write_trial(Trial& trial, const std::filesystem::path& folder) {
     write_file(folder / "trial.stdin", trial.in);
     write_file(folder / "trial.stdout", trial.out);
     std::cout << "assign " << trial.count[1] << ", simulate " << trial.count[2] << ", check "
-              << trial.count[3] << ", table " << trial.count[4] << " cases; "
-              << trial.in.size() + trial.out.size() << " bytes\n";
+              << trial.count[3] << ", table " << trial.count[4] << ", critical times "
+              << trial.count[5] << " cases; " << trial.in.size() + trial.out.size() << " bytes\n";
 }
 
 int write_cases(const std::string& folder) {
@@ -650,6 +639,7 @@ int write_cases(const std::string& folder) {
     for (int k = 0; k < 40; ++k) simulate_pair(trial, dice);
     for (int k = 0; k < 30; ++k) check_pair(trial, dice);
     for (int k = 0; k < 30; ++k) table_pair(trial, dice);
+    ask_graphs(trial);
 
     const std::filesystem::path top(folder);
     write_trial(trial, top);

@@ -14,9 +14,11 @@ i64 bound(const Set& set, std::size_t place) {
 
 // ---------------------------------------------------------------- refusals 1 to 4
 
+bool execution_in_range(u32 execution) { return 1 <= execution && execution <= LONGEST_EXECUTION; }
+
 static Field field_out_of_range(const Set& set, std::size_t place) {
     if (set.release[place] > 1'000'000'000) return RELEASE;
-    if (set.execution[place] < 1 || set.execution[place] > 1'000'000) return EXECUTION;
+    if (!execution_in_range(set.execution[place])) return EXECUTION;
     if (set.deadline[place] > 2'000'000'000) return DEADLINE;
     if (set.critical[place] > 1'000'000'000) return CRITICAL;
     return NO_FIELD;

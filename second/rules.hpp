@@ -24,9 +24,10 @@ struct Set {
 };
 
 constexpr std::size_t MOST_SUBJOBS = 128;
+constexpr u32 LONGEST_EXECUTION = 1'000'000;
 
 // The numbers by which an answer names a field for refusal 3.
-enum Field : u32 { NO_FIELD = 0, RELEASE = 1, EXECUTION = 2, DEADLINE = 3, CRITICAL = 4 };
+enum Field : u32 { NO_FIELD = 0, RELEASE = 1, EXECUTION = 2, DEADLINE = 3, CRITICAL = 4, HOP = 5 };
 
 // "Numbers a refusal carries". Completion and bound belong to number 5 alone, the field to 3.
 struct Refusal {
@@ -41,6 +42,8 @@ using Refused = std::optional<Refusal>;
 
 // The upper bound: signed, and not cut off at zero.
 i64 bound(const Set& set, std::size_t place);
+
+bool execution_in_range(u32 execution);
 
 // Numbers 1 to 4; `others` are the lengths of the lists beside the six.
 Refused numbers_1_to_4(const Set& set, const std::vector<std::size_t>& others);

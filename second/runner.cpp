@@ -18,6 +18,9 @@ std::uint32_t charoktan_assign(const std::uint8_t* records, std::size_t records_
                                std::uint8_t* deadlines, std::size_t deadlines_len);
 std::uint32_t charoktan_check(const std::uint8_t* records, std::size_t records_len,
                               const std::uint8_t* deadlines, std::size_t deadlines_len);
+std::uint32_t charoktan_critical(const std::uint8_t* executions, std::size_t executions_len,
+                                 const std::uint8_t* arcs, std::size_t arcs_len,
+                                 std::uint8_t* results, std::size_t results_len);
 }
 
 [[noreturn]] static void fail(const char* why) {
@@ -60,31 +63,40 @@ static void append(std::vector<std::uint8_t>& bytes, const void* more, std::size
     bytes.insert(bytes.end(), from, from + length);
 }
 
+struct Slice {
+    std::uint8_t* start;
+    std::size_t length;
+};
+
+static std::uint32_t call(std::uint32_t kind, const Slice& a, const Slice& b, const Slice& c) {
+    switch (kind) {
+    case 1: return charoktan_assign(a.start, a.length, b.start, b.length);
+    case 2: return charoktan_check(a.start, a.length, b.start, b.length);
+    case 3: return charoktan_critical(a.start, a.length, b.start, b.length, c.start, c.length);
+    default: fail("there is no such call");
+    }
+}
+
 // Makes the call at `at`, appends its reply and returns where the next call starts.
 static std::size_t make_call(const std::vector<std::uint8_t>& batch, std::size_t at,
                              std::vector<std::uint8_t>& replies) {
-    static GuardedRoom records_room, deadlines_room;
-    if (batch.size() - at < 16) fail("a batch is cut off");
+    static GuardedRoom rooms[3];
+    if (batch.size() - at < 20) fail("a batch is cut off");
     const std::uint32_t kind = number_at(&batch[at]), placement = number_at(&batch[at + 4]);
-    const std::size_t records_len = number_at(&batch[at + 8]);
-    const std::size_t deadlines_len = number_at(&batch[at + 12]);
-    if (batch.size() - at - 16 < records_len + deadlines_len) fail("a batch is cut off");
-
-    const std::uint8_t* bytes = batch.data() + at + 16;
-    std::uint8_t* records = records_room.place(bytes, records_len, placement & 1);
-    std::uint8_t* deadlines =
-        deadlines_room.place(bytes + records_len, deadlines_len, placement & 2);
-    // An empty slice may be passed as null.
-    if (placement & 4 && records_len == 0) records = nullptr;
-    if (placement & 4 && deadlines_len == 0) deadlines = nullptr;
-
-    const std::uint32_t returned =
-        kind == 1 ? charoktan_assign(records, records_len, deadlines, deadlines_len)
-                  : charoktan_check(records, records_len, deadlines, deadlines_len);
+    Slice slices[3];
+    std::size_t next = at + 20;
+    for (std::size_t k = 0; k < 3; ++k) {
+        const std::size_t length = number_at(&batch[at + 8 + 4 * k]);
+        if (batch.size() - next < length) fail("a batch is cut off");
+        slices[k] = {rooms[k].place(batch.data() + next, length, placement >> k & 1), length};
+        // An empty slice may be passed as null.
+        if (placement & 8 && length == 0) slices[k].start = nullptr;
+        next += length;
+    }
+    const std::uint32_t returned = call(kind, slices[0], slices[1], slices[2]);
     append(replies, &returned, sizeof returned);
-    append(replies, records, records_len);
-    append(replies, deadlines, deadlines_len);
-    return at + 16 + records_len + deadlines_len;
+    for (const auto& [start, length] : slices) append(replies, start, length);
+    return next;
 }
 
 int main() {

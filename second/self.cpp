@@ -1,5 +1,6 @@
 // The second program's checks of itself: the rules' own cases, each thing that the rules say in two
 // ways, compared on many small sets, and the same sets rearranged.
+#include "self.hpp"
 #include "commands.hpp"
 #include "sets.hpp"
 
@@ -7,9 +8,7 @@
 #include <map>
 #include <numeric>
 
-static int failures = 0;
-
-static void expect(bool holds, const std::string& what) {
+void expect(bool holds, const std::string& what) {
     if (holds) return;
     ++failures;
     std::cerr << "fails: " << what << "\n";
@@ -170,8 +169,6 @@ static bool same_pair(const Set& set, std::size_t place, const Set& other, std::
     return set.job[place] == other.job[there] && set.subtask[place] == other.subtask[there];
 }
 
-static u32 number_of(const Refused& refused) { return refused ? refused->number : 0; }
-
 static void rearranged_assignment(const Rearranged& r) {
     List local(r.order.size()), local_moved(r.order.size());
     const Assigned first = assign(r.set, local), again = assign(r.moved, local_moved);
@@ -292,6 +289,7 @@ int check_self() {
     }
     const Set many = tied_set(dice, MOST_SUBJOBS + 1);
     rearranged_faults({many, random_order(dice, MOST_SUBJOBS + 1)}, 0);
+    check_graphs();
     if (failures == 0)
         expect(ties.bounds > 2000 && ties.within_a_job > 1000 && ties.slacks > 2000,
                "many ties");

@@ -5,9 +5,8 @@
 #include <numeric>
 #include <utility>
 
-static constexpr u32 LATEST_RELEASE = 1'000'000'000, LONGEST_EXECUTION = 1'000'000,
-                     LATEST_DEADLINE = 2'000'000'000, LONGEST_CRITICAL = 1'000'000'000,
-                     LARGEST = 4'294'967'295;
+static constexpr u32 LATEST_RELEASE = 1'000'000'000, LATEST_DEADLINE = 2'000'000'000,
+                     LONGEST_CRITICAL = 1'000'000'000;
 
 u64 Dice::next() {
     u64 z = state_ += 0x9E3779B97F4A7C15;
@@ -194,6 +193,15 @@ List random_list(Dice& dice, std::size_t n) {
     for (u32& number : list)
         number = dice.chance(50) ? dice.below(100) : static_cast<u32>(dice.next());
     return list;
+}
+
+void make_unequal(Dice& dice, const std::vector<List*>& all) {
+    List& list = *all[dice.below(static_cast<u32>(all.size()))];
+    const std::size_t length = list.size();
+    if (dice.chance(50))
+        list.resize(length + 1 + dice.below(3), 1);
+    else
+        list.resize(length - std::min<std::size_t>(length, 1));
 }
 
 // The finishes of a run on the end-to-end deadlines, unless it takes too many single ticks.

@@ -7,6 +7,8 @@
 
 #include <array>
 
+constexpr u32 LARGEST = 4'294'967'295;
+
 // Steele, Lea and Flood's SplitMix64.
 class Dice {
 public:
@@ -65,6 +67,9 @@ void make_wrong(Dice& dice, Set& set);
 
 // Any numbers, for a result list before a call.
 List random_list(Dice& dice, std::size_t n);
+
+// One of the lists made longer or shorter.
+void make_unequal(Dice& dice, const std::vector<List*>& all);
 
 // Proposed local deadlines: some that hold, some that miss by little, some far off.
 List random_proposal(Dice& dice, const Set& set);

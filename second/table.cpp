@@ -1,5 +1,5 @@
 // The table program and the engine's door, on top of the rules.
-#include "rules.hpp"
+#include "graph.hpp"
 
 #include <initializer_list>
 
@@ -123,38 +123,51 @@ static void append(Bytes& bytes, u32 number) {
     for (int shift = 0; shift < 32; shift += 8) bytes.push_back(static_cast<u8>(number >> shift));
 }
 
+// Records of one number per list, one record after the other.
+static void decode(const Bytes& records, const std::vector<List*>& lists) {
+    for (std::size_t at = 0; at < records.size();)
+        for (List* list : lists) {
+            list->push_back(number_at(records, at));
+            at += 4;
+        }
+}
+
+static Bytes encode(const std::vector<const List*>& lists) {
+    Bytes bytes;
+    for (std::size_t place = 0; place < lists.front()->size(); ++place)
+        for (const List* list : lists) append(bytes, (*list)[place]);
+    return bytes;
+}
+
 static Set decode_set(const Bytes& records) {
     Set set;
-    for (std::size_t at = 0; at < records.size(); at += 24) {
-        set.job.push_back(number_at(records, at));
-        set.subtask.push_back(number_at(records, at + 4));
-        set.release.push_back(number_at(records, at + 8));
-        set.execution.push_back(number_at(records, at + 12));
-        set.deadline.push_back(number_at(records, at + 16));
-        set.critical.push_back(number_at(records, at + 20));
-    }
+    decode(records,
+           {&set.job, &set.subtask, &set.release, &set.execution, &set.deadline, &set.critical});
     return set;
 }
 
 static List decode_list(const Bytes& bytes) {
     List list;
-    for (std::size_t at = 0; at < bytes.size(); at += 4) list.push_back(number_at(bytes, at));
+    decode(bytes, {&list});
     return list;
 }
 
-Bytes encode(const Set& set) {
-    Bytes bytes;
-    for (std::size_t place = 0; place < set.job.size(); ++place)
-        for (u32 number : {set.job[place], set.subtask[place], set.release[place],
-                           set.execution[place], set.deadline[place], set.critical[place]})
-            append(bytes, number);
-    return bytes;
+Graph decode_graph(const Bytes& executions, const Bytes& arcs) {
+    Graph graph;
+    decode(executions, {&graph.execution});
+    decode(arcs, {&graph.before, &graph.after, &graph.hop});
+    return graph;
 }
 
-Bytes encode(const List& list) {
-    Bytes bytes;
-    for (u32 number : list) append(bytes, number);
-    return bytes;
+Bytes encode(const Set& set) {
+    return encode(std::vector{&set.job, &set.subtask, &set.release, &set.execution, &set.deadline,
+                              &set.critical});
+}
+
+Bytes encode(const List& list) { return encode(std::vector{&list}); }
+
+Bytes encode_arcs(const Graph& graph) {
+    return encode(std::vector{&graph.before, &graph.after, &graph.hop});
 }
 
 static bool lengths_fit(const Bytes& records, const Bytes& deadlines) {
@@ -176,4 +189,13 @@ u32 door_assign(const Bytes& records, Bytes& deadlines) {
 u32 door_check(const Bytes& records, const Bytes& deadlines) {
     if (!lengths_fit(records, deadlines)) return 1;
     return returned(check(decode_set(records), decode_list(deadlines)));
+}
+
+u32 door_critical(const Bytes& executions, const Bytes& arcs, Bytes& results) {
+    if (executions.size() % 4 != 0 || arcs.size() % 12 != 0 || results.size() != executions.size())
+        return 1;
+    List critical = decode_list(results);
+    const Refused refused = critical_times(decode_graph(executions, arcs), critical);
+    results = encode(critical);
+    return returned(refused);
 }

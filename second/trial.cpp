@@ -2,12 +2,20 @@
 #include "trial.hpp"
 #include "rearranged.hpp"
 
+#include <stdexcept>
+
 // Every number is followed by one space, the last one of a case by LF instead.
 static void put(std::string& text, u64 number) { text += std::to_string(number) + ' '; }
 
 static void put(std::string& text, const List& list) {
     put(text, list.size());
     for (u32 number : list) put(text, number);
+}
+
+// The same, for a list of `trial` that has room for so many numbers.
+static void put(std::string& text, const List& list, std::size_t room) {
+    if (list.size() > room) throw std::logic_error("a list is too long for trial");
+    put(text, list);
 }
 
 static void put(std::string& text, const Set& set) {
@@ -33,6 +41,14 @@ static void say(std::string& text, const Refusal& refusal) {
         say(text, refusal.completion);
         say(text, refusal.bound);
     }
+}
+
+// The refusal, or this word if there is none.
+static void say(std::string& text, const Refused& refused, const std::string& otherwise) {
+    if (refused)
+        say(text, *refused);
+    else
+        text += otherwise;
 }
 
 static void say_list(std::string& text, const List& list) {
@@ -151,10 +167,7 @@ void Trial::put_check(const Set& set, const List& proposed) {
 }
 
 void Trial::say_check(const Refused& answer) {
-    if (answer)
-        say(out, *answer);
-    else
-        out += "accepted";
+    say(out, answer, "accepted");
     out += '\n';
 }
 
@@ -205,6 +218,31 @@ void Trial::ask_table_again(const std::string& text, const Order& order) try {
     say_table(moved);
 } catch (const TooManyTicks&) {
 }
+
+// ---------------------------------------------------------------- critical times
+
+void Trial::ask_critical(const Graph& graph, const List& before) {
+    List results = before;
+    const Refused answer = critical_times(graph, results);
+    put(in, 5);
+    put(in, graph.execution, 160);
+    for (const List* list : {&graph.before, &graph.after, &graph.hop}) put(in, *list, 1100);
+    put(in, before, 160);
+    end_line(in);
+    ++count[5];
+    say(out, answer, "found");
+    say_list(out, results);
+    out += '\n';
+}
+
+void Trial::ask_critical_again(const Graph& graph, const List& before, const Graph& told) {
+    List results = before, results_again = before;
+    const Refused first = critical_times(graph, results);
+    must_agree(critical_times(told, results_again) == first && results_again == results);
+    ask_critical(told, before);
+}
+
+// ---------------------------------------------------------------- the end
 
 void Trial::ask_end() {
     put(in, 0);

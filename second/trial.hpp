@@ -1,12 +1,13 @@
 // The cases of `trial` and their answers, as two texts that grow. README.md has their form.
 #pragma once
 
+#include "graph.hpp"
 #include "sets.hpp"
 
 class Trial {
 public:
     std::string in, out;
-    std::array<std::size_t, 5> count{};  // by kind; kind 0 is the end
+    std::array<std::size_t, 6> count{};  // by kind; kind 0 is the end
 
     // Each is answered by the rules. A case that single ticks cannot answer in time is left out.
     void ask_assign(const Set& set, const List& before);
@@ -14,6 +15,7 @@ public:
                       const Totals& totals);
     void ask_check(const Set& set, const List& proposed);
     void ask_table(const std::string& text);
+    void ask_critical(const Graph& graph, const List& before);
 
     // The same case again, its list rearranged. Its answer is made from the first one and must be
     // the rules' own. All lists are of one length, and a table's records are well-formed.
@@ -22,6 +24,9 @@ public:
                             const List& before, const Totals& totals, const Order& order);
     void ask_check_again(const Set& set, const List& proposed, const Order& order);
     void ask_table_again(const std::string& text, const Order& order);
+
+    // An accepted graph or one with a cycle, told otherwise. Its answer must be the first one.
+    void ask_critical_again(const Graph& graph, const List& before, const Graph& told);
 
     void ask_end();
 

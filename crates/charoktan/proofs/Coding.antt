@@ -2,7 +2,6 @@
 use Prim.Native.Nat.{ℕ, zero, suc, _+_, _*_, _/_, _%_, _≤_, _<_}
 use mathlib.Core.List.{List, [], _∷_, _++_, append-nil}
 use mathlib.Core.Path.{_≡_, refl, sym, ap, _∙_}
-use native.Mathlib.Nat.{add-zero}
 use native.Mathlib.Numerals.{add-one}
 use native.Mathlib.Omega.{arith}
 use lib.ListN.{length, getD, set, take, drop, length-append, length-take, drop-of-length-le}
@@ -13,11 +12,11 @@ use Rattle.subjobs.proofs.LaidOut.{laid-here}
 use Rattle.charoktan.specs.Records.{Fields, bytes, column, count, encoded, records, word, words}
 
 -- One more number read,
-pub words-more :
-    (bs out : List ℕ) (i v : ℕ) → i < length out → take i out ≡ words bs i → v ≡ word bs (4 * i)
-    → take (i + 1) (set out i v) ≡ words bs (i + 1)
+pub column-more :
+    (bs out : List ℕ) (w k i v : ℕ) → i < length out → take i out ≡ column bs w k i → v ≡ word bs (w * i + k)
+    → take (i + 1) (set out i v) ≡ column bs w k (i + 1)
 unfolding column
-words-more bs out i v h e q = rw (add-one, take-suc-set out i v h, e, q, add-zero)
+column-more bs out w k i v h e q = rw (add-one, take-suc-set out i v h, e, q)
 
 -- one more of a field,
 pub field-more :

@@ -11,7 +11,7 @@ use Rattle.lists.proofs.Cases.{both}
 use Rattle.lists.proofs.Mapped.{take-replicate}
 use Rattle.subjobs.specs.declared.Judgement.the-variants as judged
 use Rattle.subjobs.specs.declared.Reason.the-variants.{TooMany}
-use Rattle.subjobs.specs.Sets.{Subjobs, size}
+use Rattle.subjobs.specs.Sets.{size}
 use Rattle.subjobs.specs.Judging.{judgement}
 use Rattle.subjobs.specs.Faults as faults
 use Rattle.subjobs.specs.Faults.{OneLength}
@@ -19,7 +19,6 @@ use Rattle.subjobs.proofs.Fit.{judged-exactly}
 use Rattle.olda.specs.declared.Answer.{Answer}
 use Rattle.olda.specs.declared.Answer.the-variants.{Refused}
 use Rattle.olda.specs.Answers.{answer, results}
-use Rattle.olda.proofs.Results.{results-length}
 use Rattle.checker.specs.declared.Answer as checker
 use Rattle.checker.specs.declared.Answer.the-variants as check
 use Rattle.checker.specs.Answers as checkers
@@ -72,21 +71,16 @@ module _ (bs out : List ℕ) where
       {r x : ℕ} {l y : List ℕ} → r ≡ x → l ≡ y → (assigned bs (length out) ≡ x) × (assignedBytes bs out ≡ y) → AssignsBytes bs out r l
   assigns p q d = (p ∙ sym (d .0), q ∙ sym (d .1))
 
--- What the assignment left in the front of a room of zeros is what it gives for zeros.
+-- What a call that keeps the length left in the front of a room of zeros is what it gives for zeros.
 pub front :
-    (s : Subjobs) (n : ℕ) (zeros local : List ℕ)
+    (f : List ℕ → List ℕ) → ((out : List ℕ) → length (f out) ≡ length out) → (n : ℕ) (zeros local : List ℕ)
     → n ≤ length zeros
     → zeros ≡ replicate (length zeros) 0
-    → local ≡ results s (take n zeros) ++ drop n zeros
-    → take n local ≡ results s (replicate n 0)
-front s n zeros local h z e =
+    → local ≡ f (take n zeros) ++ drop n zeros
+    → take n local ≡ f (replicate n 0)
+front f keeps n zeros local h z e =
     let t : take n zeros ≡ replicate n 0 = ap (take n) z ∙ take-replicate n (length zeros) 0 h in
-    rw (e, t) (take-at (results s (replicate n 0)) (drop n zeros) n (results-length s (replicate n 0) ∙ length-replicate {A = ℕ} n 0))
-
--- What was read into the front of a room is what the bytes hold.
-pub front-words :
-    (ds part rest : List ℕ) (n m : ℕ) → m ≡ n → part ≡ words ds m → take n (part ++ rest) ≡ words ds n
-front-words ds part rest n m l e = rw (e, l) (take-at (words ds n) rest n (length-column ds 4 0 n))
+    rw (e, t) (take-at (f (replicate n 0)) (drop n zeros) n (keeps (replicate n 0) ∙ length-replicate {A = ℕ} n 0))
 
 module _ (bs ds : List ℕ) where
   pub unfit-check : fitting bs (length ds) ≡ false → checked bs ds ≡ 1

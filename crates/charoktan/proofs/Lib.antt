@@ -1,2 +1,3 @@
 pub mod Coding
 pub mod Door
+pub mod GraphDoor

@@ -1,14 +1,17 @@
--- What the door returns and leaves: the assignment's and the checker's own answers on the decoded lists.
+-- What the door returns and leaves: the assignment's, the checker's and the graph's own answers on the decoded lists.
 --
 --   code number place   == the number returned for a refusal
 --   assigned bs m       == what charoktan_assign returns, for m bytes of results
 --   assignedBytes bs out == what the results hold afterwards, if they held out before
 --   checked bs ds       == what charoktan_check returns
-use Prim.Native.Nat.{ℕ, _+_, _*_}
+--   found es arcs m     == what charoktan_critical returns, for m bytes of results
+--   foundBytes es arcs out == what the results hold afterwards, if they held out before
+use Prim.Native.Nat.{ℕ, _+_, _*_, _/_}
 use mathlib.Core.Bool.{cond}
 use mathlib.Core.List.{List}
 use mathlib.Core.Path.{_≡_}
 use lib.ListN.{length, replicate}
+use Rattle.subjobs.specs.Judging.{ifPassed}
 use Rattle.subjobs.specs.declared.Reason.{Reason}
 use Rattle.subjobs.specs.Reasons.{numberOf, placeOf}
 use Rattle.olda.specs.declared.Answer as olda
@@ -17,7 +20,8 @@ use Rattle.olda.specs.Answers.{answer, results}
 use Rattle.checker.specs.declared.Answer as checker
 use Rattle.checker.specs.declared.Answer.the-variants as check
 use Rattle.checker.specs.Answers as checkers
-use Rattle.charoktan.specs.Records.{count, records, encoded, fitting, words}
+use Rattle.graph.specs.Answers as graphs
+use Rattle.charoktan.specs.Records.{count, records, encoded, fitting, words, graphOf, fittingGraph}
 
 -- The number returned is 0, or the refusal number plus 65,536 times the place.
 abbrev pub code : Reason → ℕ
@@ -58,3 +62,20 @@ AssignsBytes bs out r out′ = (r ≡ assigned bs (length out)) × (out′ ≡ a
 -- What `charoktan_check` is held to.
 abbrev pub ChecksBytes : (bs ds : List ℕ) → ℕ → Type 0
 ChecksBytes bs ds r = r ≡ checked bs ds
+
+-- Critical times from a graph, by the same rules: one number returned, and a refused call leaves every byte.
+unfoldable pub found : (es arcs : List ℕ) → ℕ → ℕ
+found es arcs m =
+    cond (fittingGraph es arcs m) (ifPassed (graphs.answer (graphOf es arcs) (length es / 4)) 0 code) 1
+
+unfoldable pub foundBytes : (es arcs out : List ℕ) → List ℕ
+foundBytes es arcs out =
+    cond (fittingGraph es arcs (length out))
+    (ifPassed (graphs.answer (graphOf es arcs) (length es / 4))
+    (encoded (graphs.results (graphOf es arcs) (replicate (length es / 4) 0)))
+    (λ r. out))
+    out
+
+-- What `charoktan_critical` is held to.
+abbrev pub FindsBytes : (es arcs out : List ℕ) → ℕ → List ℕ → Type 0
+FindsBytes es arcs out r out′ = (r ≡ found es arcs (length out)) × (out′ ≡ foundBytes es arcs out)

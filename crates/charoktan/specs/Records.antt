@@ -7,8 +7,13 @@
 --   Reading bs n i l == that, with record i of n to be read next, and room for it
 --   bytes v          == the four bytes of a number, little-endian
 --   encoded vs       == the bytes of a list of numbers
+--   Column bs w k n  == n records of w bytes are there, and a number stands at byte k of each
 --   words bs n       == the n numbers that these bytes hold
 --   fitting bs m     == the lengths fit: whole records, and 4 bytes of results for each
+--   graphOf es as    == the graph whose executions and arcs the bytes hold
+--   fittingGraph es as m == their lengths fit: whole executions and arcs, and m bytes of results
+--   GraphWithin es as out n m == the lengths fit n sub-jobs and m arcs at most
+--   GraphRooms ..    == the lengths fit, and there is room for executions, befores, afters, hops and, all zeros, for results
 --   Rooms bs ds fs l == the lengths fit, fs has room for the six fields, and l, all zeros, for one list more
 use Prim.Native.Nat.{ℕ, zero, suc, _+_, _*_, _/_, _%_, _≤_, _<_}
 use mathlib.Core.Bool.{Bool, true, _&&_}
@@ -18,6 +23,7 @@ use lib.Dec.{eqb}
 use lib.ListN.{length, getD, replicate}
 use Rattle.subjobs.specs.Sets.{Subjobs, subjobs}
 use Rattle.subjobs.specs.Layout.{listAt}
+use Rattle.graph.specs.Graphs.{Graph, graph}
 
 abbrev pub word : List ℕ → ℕ → ℕ
 word bs at =
@@ -26,6 +32,10 @@ word bs at =
 unfoldable pub column : List ℕ → (width at : ℕ) → ℕ → List ℕ
 column bs w k zero = []
 column bs w k (suc n) = column bs w k n ++ (word bs (w * n + k) ∷ [])
+
+pub record Column (bs : List ℕ) (w k n : ℕ) : Type 0 where
+  pub inside : k + 4 ≤ w
+  pub whole : w * n ≤ length bs
 
 -- how many records the bytes hold
 abbrev pub count : List ℕ → ℕ
@@ -68,4 +78,30 @@ pub record Rooms (bs ds fs l : List ℕ) : Type 0 where
   pub few : count bs ≤ 128
   pub fields : 6 * count bs ≤ length fs
   pub list : count bs ≤ length l
+  pub zeros : l ≡ replicate (length l) 0
+
+-- executions 4 bytes each, arcs 12 bytes each: before, after, hop delay
+unfoldable pub graphOf : (es arcs : List ℕ) → Graph
+graphOf es arcs =
+    let field : ℕ → List ℕ = λ k. column arcs 12 k (length arcs / 12) in
+    graph (words es (length es / 4)) (field 0) (field 4) (field 8)
+
+-- A length that does not fit is refusal 1.
+abbrev pub fittingGraph : (es arcs : List ℕ) → ℕ → Bool
+fittingGraph es arcs m = eqb (length es % 4) 0 && eqb (length arcs % 12) 0 && eqb m (length es)
+
+pub record GraphWithin (es arcs out : List ℕ) (n m : ℕ) : Type 0 where
+  pub fits : fittingGraph es arcs (length out) ≡ true
+  pub few : length es / 4 ≤ n
+  pub fewArcs : length arcs / 12 ≤ m
+
+pub record GraphRooms (es arcs out ts from to hs l : List ℕ) : Type 0 where
+  pub fits : fittingGraph es arcs (length out) ≡ true
+  pub few : length es / 4 ≤ 128
+  pub fewArcs : length arcs / 12 ≤ 1_024
+  pub times : length es / 4 ≤ length ts
+  pub befores : length arcs / 12 ≤ length from
+  pub afters : length arcs / 12 ≤ length to
+  pub hops : length arcs / 12 ≤ length hs
+  pub list : length es / 4 ≤ length l
   pub zeros : l ≡ replicate (length l) 0

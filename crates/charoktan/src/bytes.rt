@@ -3,7 +3,7 @@ ghost use Prim.Native.Nat.{_+_, _*_, _≤_, _<_};
 ghost use mathlib.Core.Path.{_≡_};
 ghost use mathlib.Core.List.{_++_};
 ghost use lib.ListN.{length, take, drop};
-ghost use Rattle.charoktan.specs.Records.{word, words, Fields, Reading, bytes, encoded};
+ghost use Rattle.charoktan.specs.Records.{word, column, Column, Fields, Reading, bytes, encoded};
 ghost use Rattle.subjobs.specs.Layout.{listAt};
 
 fn wide(x: u8) -> u32
@@ -23,14 +23,14 @@ fn word(bytes: &[u8], at: usize) -> u32
         + 16_777_216 * wide(bytes[at + 3])
 }
 
-// The numbers that the bytes hold, as many as `out` has places.
-pub(crate) fn words(bytes: &[u8], out: &mut [u32])
-    requires { ⌜ 4 * length (now out) ≤ length (now bytes) ⌝ }
-    ensures { λ _. ⌜ now (out .exit) ≡ words (now (bytes .entry)) (length (now (out .entry))) ⌝ }
+// One number of each of n records of `width` bytes, the one at byte `at` of it.
+pub(crate) fn column(bytes: &[u8], width: usize, at: usize, n: usize, out: &mut [u32])
+    requires { ⌜ Column (now bytes) width at n × (n ≤ length (now out)) ⌝ }
+    ensures { λ _. ⌜ take n (now (out .exit)) ≡ column (now (bytes .entry)) width at n ⌝ }
 {
     let mut i = 0;
-    while i < out.len() {
-        out[i] = word(bytes, 4 * i);
+    while i < n {
+        out[i] = word(bytes, width * i + at);
         i += 1;
     }
 }

@@ -1,18 +1,20 @@
-// The engine's door: the assignment and the checker on the engine's own bytes, 24 for each sub-job.
+// The engine's door: the assignment and the checker on the engine's own bytes, 24 for each sub-job, and critical times from
+// a graph, 4 for each sub-job and 12 for each arc.
 ghost use Prim.Native.Nat.{_<_};
 ghost use mathlib.Core.Path.{_≡_};
 ghost use Rattle.subjobs.specs.Reasons.{placeOf};
-ghost use Rattle.charoktan.specs.Records.{fitting, Rooms};
-ghost use Rattle.charoktan.specs.Answers.{code, AssignsBytes, ChecksBytes};
+ghost use Rattle.charoktan.specs.Records.{fitting, fittingGraph, Rooms, GraphWithin, GraphRooms};
+ghost use Rattle.charoktan.specs.Answers.{code, AssignsBytes, ChecksBytes, FindsBytes};
 use checker::Answer as Checked;
 use olda::Answer;
+use subjobs::Judgement;
 use subjobs::Reason;
 
 mod bytes;
 
 // The number returned for a refusal.
 fn code(reason: Reason) -> u32
-    requires { ⌜ placeOf reason < 128 ⌝ }
+    requires { ⌜ placeOf reason < 1_024 ⌝ }
     ensures { λ r. ⌜ r ≡ code reason ⌝ }
 {
     let told = subjobs::tell(reason);
@@ -85,7 +87,7 @@ fn check_in(records: &[u8], deadlines: &[u8], fields: &mut [u32], proposed: &mut
 {
     let n = records.len() / 24;
     bytes::columns(records, n, fields);
-    bytes::words(deadlines, &mut proposed[..n]);
+    bytes::column(deadlines, 4, 0, n, proposed);
     let lists = &fields[..];
     let answer = checker::check(
         bytes::field(lists, n, 0),
@@ -122,4 +124,115 @@ pub extern "C" fn charoktan_check(records: &[u8], deadlines: &[u8]) -> u32
     let mut fields = [0u32; 768];
     let mut proposed = [0u32; 128];
     check_in(records, deadlines, &mut fields, &mut proposed)
+}
+
+// Whether executions and arcs are whole, and the results have 4 bytes for each execution.
+fn fitting_graph(executions: &[u8], arcs: &[u8], results: usize) -> bool
+    ensures { λ r. ⌜ r ≡ fittingGraph (now (executions .entry)) (now (arcs .entry)) results ⌝ }
+{
+    (executions.len() % 4 == 0) & (arcs.len() % 12 == 0) & (results == executions.len())
+}
+
+// Critical times of whole executions and arcs, with room lent for what they hold and for the results.
+fn critical_in(
+    executions: &[u8],
+    arcs: &[u8],
+    results: &mut [u8],
+    times: &mut [u32],
+    befores: &mut [u32],
+    afters: &mut [u32],
+    hops: &mut [u32],
+    local: &mut [u32],
+) -> u32
+    requires { ⌜
+        GraphRooms (now executions) (now arcs) (now results) (now times) (now befores) (now afters) (now hops) (now local) ⌝ }
+    ensures { λ r. ⌜
+        FindsBytes (now (executions .entry)) (now (arcs .entry)) (now (results .entry)) r (now (results .exit)) ⌝ }
+{
+    let n = executions.len() / 4;
+    let m = arcs.len() / 12;
+    bytes::column(executions, 4, 0, n, times);
+    bytes::column(arcs, 12, 0, m, befores);
+    bytes::column(arcs, 12, 4, m, afters);
+    bytes::column(arcs, 12, 8, m, hops);
+    let answer = graph::critical(
+        &times[..n],
+        &befores[..m],
+        &afters[..m],
+        &hops[..m],
+        &mut local[..n],
+    );
+    match answer {
+        Judgement::Refused(reason) => code(reason),
+        Judgement::Passed => {
+            bytes::put_all(local, n, results);
+            0
+        }
+    }
+}
+
+// The same in rooms for up to 16 sub-jobs and 32 arcs: rooms are cleared at each call.
+fn critical_few(executions: &[u8], arcs: &[u8], results: &mut [u8]) -> u32
+    requires { ⌜ GraphWithin (now executions) (now arcs) (now results) 16 32 ⌝ }
+    ensures { λ r. ⌜
+        FindsBytes (now (executions .entry)) (now (arcs .entry)) (now (results .entry)) r (now (results .exit)) ⌝ }
+{
+    let mut times = [0u32; 16];
+    let mut befores = [0u32; 32];
+    let mut afters = [0u32; 32];
+    let mut hops = [0u32; 32];
+    let mut local = [0u32; 16];
+    critical_in(
+        executions,
+        arcs,
+        results,
+        &mut times,
+        &mut befores,
+        &mut afters,
+        &mut hops,
+        &mut local,
+    )
+}
+
+// And in rooms for as many as there may be.
+fn critical_many(executions: &[u8], arcs: &[u8], results: &mut [u8]) -> u32
+    requires { ⌜ GraphWithin (now executions) (now arcs) (now results) 128 1024 ⌝ }
+    ensures { λ r. ⌜
+        FindsBytes (now (executions .entry)) (now (arcs .entry)) (now (results .entry)) r (now (results .exit)) ⌝ }
+{
+    let mut times = [0u32; 128];
+    let mut befores = [0u32; 1_024];
+    let mut afters = [0u32; 1_024];
+    let mut hops = [0u32; 1_024];
+    let mut local = [0u32; 128];
+    critical_in(
+        executions,
+        arcs,
+        results,
+        &mut times,
+        &mut befores,
+        &mut afters,
+        &mut hops,
+        &mut local,
+    )
+}
+
+// Critical times from a graph: 0, with the results written, or a refusal's number, with every byte left as it was.
+#[no_mangle]
+pub extern "C" fn charoktan_critical(executions: &[u8], arcs: &[u8], results: &mut [u8]) -> u32
+    ensures { λ r. ⌜
+        FindsBytes (now (executions .entry)) (now (arcs .entry)) (now (results .entry)) r (now (results .exit)) ⌝ }
+{
+    if !fitting_graph(executions, arcs, results.len()) {
+        return 1;
+    }
+    let n = executions.len() / 4;
+    let m = arcs.len() / 12;
+    if !((n <= 128) & (m <= 1_024)) {
+        return 2;
+    }
+    if (n <= 16) & (m <= 32) {
+        return critical_few(executions, arcs, results);
+    }
+    critical_many(executions, arcs, results)
 }

@@ -6,5 +6,6 @@ pub mod Choice
 pub mod Renamed
 pub mod Rearranged
 pub mod Mapped
+pub mod Copied
 pub mod Taken
 pub mod Searched

@@ -28,6 +28,17 @@ weight-within f (x ∷ xs) ys d of =
       weight-within f xs (without x ys) (d .1) (λ i m. in-without x ys (of i (List·Memᴰ·tail m)) (λ e. d .0 (rw e at m))),
     )
 
+-- Of n places no more than n can stand in a list that has none twice.
+pub few-places : (n : ℕ) (xs : List ℕ) → Nodup xs → ((i : ℕ) → List·Memᴰ i xs → i < n) → length xs ≤ n
+few-places n xs d h =
+    omega (
+      arith,
+      weight-within (λ i. 1) xs (places n) d (λ i m. in-places n i (h i m)),
+      weight-length xs,
+      weight-length (places n),
+      from-length 0 n,
+    )
+
 -- Two lists with the same members, each once, are one group.
 pub same-members :
     (xs ys : List ℕ)

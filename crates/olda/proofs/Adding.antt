@@ -13,7 +13,7 @@ use Rattle.lists.proofs.Mapped.{at-map, part-within}
 use Rattle.lists.proofs.Members.{every-at, every-drop, every-more}
 use Rattle.lists.proofs.Sums.{weight-nil, weight-cons}
 use Rattle.olda.specs.Parts.{at, total, completes, completions, Ordering, Ranged, Tail, Tails}
-use Rattle.olda.proofs.Copied.{Copied, copied-none, copied-next, copied-all}
+use Rattle.lists.proofs.Copied.{Copied, copied-none, copied-next, copied-all}
 
 weight-most : (rs cs xs : List ℕ) → Every (Ranged rs cs) xs → weight (at cs) xs ≤ 1_000_000 * length xs
 weight-most rs cs [] e = omega (arith, weight-nil (at cs))

@@ -1,4 +1,3 @@
-pub mod Copied
 pub mod Shifts
 pub mod Inserting
 pub mod Adding

@@ -86,7 +86,7 @@ nothing-placed s out (assign.late f h) e = let z : _≡_ {A = ℕ} 5 0 = cc in a
 nothing-placed s out (assign.nothing f z) e = (z, refl)
 nothing-placed s out (assign.placed f l h r) e = let z : _≡_ {A = ℕ} 0 1 = cc in absurd (omega arith)
 
-not-0 : (r : Reason) → numberOf r ≢ 0
+pub not-0 : (r : Reason) → numberOf r ≢ 0
 not-0 r e = omega (arith, number-range r .0)
 
 module _ (bs out : List ℕ) where
@@ -222,7 +222,9 @@ pub door-checks : DoorChecks
 door-checks bs ds = (checks-so bs ds, λ n h. check-only bs ds h)
 
 -- A number below 65,536 and a place are told apart again.
-parted : (returned : ℕ) (r : Reason) {n p : ℕ} → returned ≡ n + 65_536 * p → n ≡ numberOf r → p ≡ placeOf r → placeOf r < 128 → (returned % 65_536 ≡ n) × (returned / 65_536 ≡ p) × (p < 128)
+pub parted :
+    (returned : ℕ) (r : Reason) {n p m : ℕ} → returned ≡ n + 65_536 * p → n ≡ numberOf r → p ≡ placeOf r → placeOf r < m
+    → (returned % 65_536 ≡ n) × (returned / 65_536 ≡ p) × (p < m)
 parted returned r e a b h = let w = number-range r in (omega arith, omega arith, omega arith)
 
 pub told-apart : ToldApart

@@ -4,10 +4,12 @@ pub mod Faulted
 pub mod Assign
 pub mod Simulate
 pub mod Check
+pub mod Critical
 pub mod Demand3
 pub mod Text
 pub mod Cases
 pub mod Door
+pub mod CriticalDoor
 pub mod Outcomes
 pub mod Example
 pub mod Reordering

@@ -27,11 +27,13 @@ use Rattle.promises.specs.Assign.{resultsFit, AssignSays}
 use Rattle.promises.specs.Simulate as simulate
 use Rattle.promises.specs.Simulate.{SimulateSays}
 use Rattle.promises.specs.Door.{room}
-use Rattle.promises.specs.Outcomes.{RefusedKeeps, WritesAll, OneAssign, OneSimulate, OneRun, OneCheck, OneTable, OneDoorAssign, OneDoorCheck, OneJudge, OneTell, OneRecord, OneAfterLine, OneWrite}
+use Rattle.promises.specs.Outcomes.{RefusedKeeps, WritesAll, OneAssign, OneSimulate, OneRun, OneCheck, OneTable, OneCritical, OneDoorAssign, OneDoorCheck, OneDoorCritical, OneJudge, OneTell, OneRecord, OneAfterLine, OneWrite}
 use Rattle.promises.proofs.Faulted.{faulted, refused-number}
 use Rattle.promises.proofs.Assign.{assign-answers, assigned-rules, placed-answer}
 use Rattle.promises.proofs.Simulate.{simulate-answers}
+use Rattle.promises.proofs.Critical.{critical-keeps, critical-writes}
 use Rattle.promises.proofs.Door.{door-keeps, door-placed}
+use Rattle.promises.proofs.CriticalDoor.{graph-keeps, graph-writes}
 
 -- A refusal of the assignment leaves the list.
 assign-keeps : (s : Subjobs) (out : List ℕ) {v : List ℤ} {l : List ℕ} → AssignSays s out v l → (accepted v → ⊥) → l ≡ out
@@ -100,11 +102,13 @@ pub refused-keeps : RefusedKeeps
 refused-keeps = (
   λ s out n. assign-keeps s out (assign-answers s out .0) n,
   λ s ds asks fs t n. simulate-keeps s ds asks fs t (simulate-answers s ds asks fs t .0) n,
+  critical-keeps,
   λ bs out z. door-keeps bs out z,
+  λ es bs out z. graph-keeps es bs out z,
 )
 
 pub writes-all : WritesAll
-writes-all = (assign-writes, simulate-writes, door-writes)
+writes-all = (assign-writes, simulate-writes, critical-writes, door-writes, graph-writes)
 
 pub one-assign : OneAssign
 one-assign s out new other r q h k = (h .0 ∙ sym (k .0), h .1 ∙ sym (k .1))
@@ -121,11 +125,17 @@ one-check s ds r q h k = h ∙ sym k
 pub one-table : OneTable
 one-table text out new other r q h k = (h .count ∙ sym (k .count), h .bytes ∙ sym (k .bytes))
 
+pub one-critical : OneCritical
+one-critical g out new other r q h k = (h .0 ∙ sym (k .0), h .1 ∙ sym (k .1))
+
 pub one-door-assign : OneDoorAssign
 one-door-assign bs out new other r q h k = (h .0 ∙ sym (k .0), h .1 ∙ sym (k .1))
 
 pub one-door-check : OneDoorCheck
 one-door-check bs ds r q h k = h ∙ sym k
+
+pub one-door-critical : OneDoorCritical
+one-door-critical es bs out new other r q h k = (h .0 ∙ sym (k .0), h .1 ∙ sym (k .1))
 
 pub one-judge : OneJudge
 one-judge s others r q h k = h ∙ sym k

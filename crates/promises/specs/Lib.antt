@@ -3,9 +3,11 @@ pub mod Demand3
 pub mod Assign
 pub mod Simulate
 pub mod Check
+pub mod Critical
 pub mod Text
 pub mod Example
 pub mod Door
+pub mod CriticalDoor
 pub mod Outcomes
 pub mod Cases
 pub mod Reordering

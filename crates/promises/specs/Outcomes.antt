@@ -3,8 +3,8 @@
 --
 --   RefusedKeeps  == after a refusal every lent list and the totals hold what they held
 --   WritesAll     == after acceptance every place of the result list is written, whatever it held
---   OneAssign, OneSimulate, OneRun, OneCheck, OneTable, OneDoorAssign, OneDoorCheck == two outcomes that the contract of an
---                    entry allows are equal
+--   OneAssign, OneSimulate, OneRun, OneCheck, OneTable, OneCritical, OneDoorAssign, OneDoorCheck, OneDoorCritical == two
+--                    outcomes that the contract of an entry allows are equal
 --   OneJudge, OneTell, OneRecord, OneAfterLine, OneWrite == the same of the functions that the entries share
 use Prim.Native.Nat.{ℕ}
 use mathlib.Core.Bool.{Bool}
@@ -17,7 +17,7 @@ use Rattle.subjobs.specs.declared.Reason.{Reason}
 use Rattle.subjobs.specs.declared.Told.{Told}
 use Rattle.subjobs.specs.Sets.{Subjobs}
 use Rattle.subjobs.specs.Reasons.{tell}
-use Rattle.subjobs.specs.Judging.{Judges}
+use Rattle.subjobs.specs.Judging.{values, Judges}
 use Rattle.olda.specs.declared.Answer as placing
 use Rattle.olda.specs.Answers as olda
 use Rattle.edf.specs.declared.Answer as running
@@ -30,6 +30,8 @@ use Rattle.text.specs.declared.reading.End.{End}
 use Rattle.text.specs.Reading.{afterLine, Recorded}
 use Rattle.text.specs.Writing.{Wrote}
 use Rattle.table.specs.Answers as table
+use Rattle.graph.specs.Graphs.{Graph}
+use Rattle.graph.specs.Answers as graph
 use Rattle.charoktan.specs.Answers as door
 use Rattle.promises.specs.Words.{accepted}
 
@@ -40,7 +42,9 @@ RefusedKeeps =
     × ((s : Subjobs) (ds asks fs : List ℕ) (t : Totals)
     → (accepted (edf.values (edf.answer s ds asks (length fs) t)) → ⊥)
     → (edf.finishes s ds asks fs t ≡ fs) × (edf.totals s ds asks (length fs) t ≡ t))
+    × ((g : Graph) (out : List ℕ) → (accepted (values (graph.answer g (length out))) → ⊥) → graph.results g out ≡ out)
     × ((bs out : List ℕ) → door.assigned bs (length out) ≢ 0 → door.assignedBytes bs out ≡ out)
+    × ((es bs out : List ℕ) → door.found es bs (length out) ≢ 0 → door.foundBytes es bs out ≡ out)
 
 -- After acceptance the whole result list is written: it has its length, and nothing of what it held is left.
 abbrev pub WritesAll : Type 0
@@ -53,10 +57,18 @@ WritesAll =
     → accepted (edf.values (edf.answer s ds asks (length fs) t))
     → length old ≡ length fs
     → (edf.finishes s ds asks fs t ≡ edf.finishes s ds asks old t) × (length (edf.finishes s ds asks fs t) ≡ length fs))
+    × ((g : Graph) (out old : List ℕ)
+    → accepted (values (graph.answer g (length out)))
+    → length old ≡ length out
+    → (graph.results g out ≡ graph.results g old) × (length (graph.results g out) ≡ length out))
     × ((bs out old : List ℕ)
     → door.assigned bs (length out) ≡ 0
     → length old ≡ length out
     → (door.assignedBytes bs out ≡ door.assignedBytes bs old) × (length (door.assignedBytes bs out) ≡ length out))
+    × ((es bs out old : List ℕ)
+    → door.found es bs (length out) ≡ 0
+    → length old ≡ length out
+    → (door.foundBytes es bs out ≡ door.foundBytes es bs old) × (length (door.foundBytes es bs out) ≡ length out))
 
 -- Two outcomes of a call that its contract allows are equal: the answer, each lent list and the lent record. The relations
 -- are the contracts' own words.
@@ -91,6 +103,13 @@ OneTable =
     → table.Tables text out q other
     → (r ≡ q) × (new ≡ other)
 
+abbrev pub OneCritical : Type 0
+OneCritical =
+    (g : Graph) (out new other : List ℕ) (r q : Judgement)
+    → graph.Finds g out r new
+    → graph.Finds g out q other
+    → (r ≡ q) × (new ≡ other)
+
 abbrev pub OneDoorAssign : Type 0
 OneDoorAssign =
     (bs out new other : List ℕ) (r q : ℕ)
@@ -100,6 +119,13 @@ OneDoorAssign =
 
 abbrev pub OneDoorCheck : Type 0
 OneDoorCheck = (bs ds : List ℕ) (r q : ℕ) → door.ChecksBytes bs ds r → door.ChecksBytes bs ds q → r ≡ q
+
+abbrev pub OneDoorCritical : Type 0
+OneDoorCritical =
+    (es bs out new other : List ℕ) (r q : ℕ)
+    → door.FindsBytes es bs out r new
+    → door.FindsBytes es bs out q other
+    → (r ≡ q) × (new ≡ other)
 
 abbrev pub OneJudge : Type 0
 OneJudge = (s : Subjobs) (others : Bool) (r q : Judgement) → Judges s others r → Judges s others q → r ≡ q

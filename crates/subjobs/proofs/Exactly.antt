@@ -63,18 +63,24 @@ exactly-unless b w so not-so apart =
 pub exactly-test : {P : Type 0} (b : Bool) (w : Reason) → (b ≡ true → P) → (P → b ≡ true) → Exactly (unless b w) P (λ r. (r ≡ w) × (P → ⊥))
 exactly-test b w so back = exactly-unless b w so (λ e p. clash (back p) e) (λ p n. n p)
 
+-- The second is looked at only where the first passes, so it may stand on that.
+pub exactly-then :
+    {a b : Judgement} {P P′ : Type 0} {Q Q′ : Reason → Type 0} → Exactly a P Q → (P → Exactly b P′ Q′)
+    → Exactly (orElse a b) (P × P′) (λ r. Q r ⊎ (P × Q′ r))
+exactly-then x y =
+    record {
+      passes = λ p. rw (x .passes (p .0)) (y (p .0) .passes (p .1));
+      refuses = λ r q. split q (λ h. rw (x .refuses r h)) (λ h. rw (x .passes (h .0)) (y (h .0) .refuses r (h .1)));
+      holds =
+          split (x .holds)
+          (λ p. split (y p .holds) (λ p′. inl (p, p′)) (λ q. inr (q .0, inr (p, q .1))))
+          (λ q. inr (q .0, inl (q .1)));
+    }
+
 pub exactly-or :
     {a b : Judgement} {P P′ : Type 0} {Q Q′ : Reason → Type 0} → Exactly a P Q → Exactly b P′ Q′
     → Exactly (orElse a b) (P × P′) (λ r. Q r ⊎ (P × Q′ r))
-exactly-or x y =
-    record {
-      passes = λ p. rw (x .passes (p .0)) (y .passes (p .1));
-      refuses = λ r q. split q (λ h. rw (x .refuses r h)) (λ h. rw (x .passes (h .0)) (y .refuses r (h .1)));
-      holds =
-          split (x .holds)
-          (λ p. split (y .holds) (λ p′. inl (p, p′)) (λ q. inr (q .0, inr (p, q .1))))
-          (λ q. inr (q .0, inl (q .1)));
-    }
+exactly-or x y = exactly-then x (λ p. y)
 
 -- A search passes exactly if every place does, and refuses exactly for what the first place refused is refused for.
 module _ (J : ℕ → Judgement) (P : ℕ → Type 0) (Q : ℕ → Reason → Type 0) (x : (k : ℕ) → Exactly (J k) (P k) (Q k)) where

@@ -10,7 +10,7 @@ use lib.Dec.{leb, eqb}
 use Rattle.lists.proofs.Cases.{split, clash, both, tests}
 use Rattle.lists.proofs.Searched.{some-cases}
 use Rattle.subjobs.specs.declared.Field.{Field}
-use Rattle.subjobs.specs.declared.Field.the-variants.{Release, Execution, Deadline, Critical}
+use Rattle.subjobs.specs.declared.Field.the-variants.{Release, Execution, Deadline, Critical, Hop}
 use Rattle.subjobs.specs.declared.Judgement.the-variants.{Passed, Refused}
 use Rattle.subjobs.specs.declared.Reason.{Reason}
 use Rattle.subjobs.specs.declared.Reason.the-variants.{Lengths, TooMany, Range, Pair}
@@ -50,10 +50,10 @@ all-one-length s others l =
     )
 
 -- 3
-at-most : (x m : ℕ) (w : Reason) → Exactly (unless (leb x m) w) (x ≤ m) (λ r. (r ≡ w) × (x ≤ m → ⊥))
+pub at-most : (x m : ℕ) (w : Reason) → Exactly (unless (leb x m) w) (x ≤ m) (λ r. (r ≡ w) × (x ≤ m → ⊥))
 at-most x m w = exactly-test (leb x m) w (leb-true x m) (le-leb x m)
 
-between :
+pub between :
     (a x m : ℕ) (w : Reason)
     → Exactly (unless (leb a x && leb x m) w) ((a ≤ x) × (x ≤ m)) (λ r. (r ≡ w) × ((a ≤ x) × (x ≤ m) → ⊥))
 between a x m w =
@@ -102,6 +102,7 @@ module _ (s : Subjobs) (p : ℕ) where
       back r (Execution, e, h, n) = inr (h, inl (e, n))
       back r (Deadline, e, h, n) = inr (h .0, inr (h .1, inl (e, n)))
       back r (Critical, e, h, n) = inr (h .0, inr (h .1, inr (h .2, (e, n))))
+      back r (Hop, e, h, n) = absurd (n tt)
 
   -- 4
   abbrev New : Type 0

@@ -16,7 +16,7 @@ use mathlib.Core.Bool.{Bool, true}
 use mathlib.Core.Path.{_≡_}
 use lib.ListN.{length}
 use Rattle.subjobs.specs.declared.Field.{Field}
-use Rattle.subjobs.specs.declared.Field.the-variants.{Release, Execution, Deadline, Critical}
+use Rattle.subjobs.specs.declared.Field.the-variants.{Release, Execution, Deadline, Critical, Hop}
 use Rattle.subjobs.specs.declared.Reason.{Reason}
 use Rattle.subjobs.specs.declared.Reason.the-variants.{Lengths, TooMany, Range, Pair}
 use Rattle.subjobs.specs.Sets.{Subjobs, size, job, subtask, release, execution, deadline, critical}
@@ -39,11 +39,13 @@ pub record InRange (r c dl z : ℕ) : Type 0 where
 abbrev pub AllInRange : Subjobs → ℕ → Type 0
 AllInRange s n = (i : ℕ) → i < n → InRange (release s i) (execution s i) (deadline s i) (critical s i)
 
+-- no sub-job has a hop delay, so none is out of range
 abbrev pub Ranged : Subjobs → Field → ℕ → Type 0
 Ranged s Release i = release s i ≤ 1_000_000_000
 Ranged s Execution i = (1 ≤ execution s i) × (execution s i ≤ 1_000_000)
 Ranged s Deadline i = deadline s i ≤ 2_000_000_000
 Ranged s Critical i = critical s i ≤ 1_000_000_000
+Ranged s Hop i = Unit {0}
 
 -- in the order release, execution, deadline, critical time
 abbrev pub RangedBefore : Subjobs → Field → ℕ → Type 0
@@ -51,6 +53,7 @@ RangedBefore s Release i = Unit {0}
 RangedBefore s Execution i = Ranged s Release i
 RangedBefore s Deadline i = Ranged s Release i × Ranged s Execution i
 RangedBefore s Critical i = Ranged s Release i × Ranged s Execution i × Ranged s Deadline i
+RangedBefore s Hop i = Unit {0}
 
 abbrev pub SamePair : Subjobs → ℕ → ℕ → Type 0
 SamePair s i j = (job s i ≡ job s j) × (subtask s i ≡ subtask s j)

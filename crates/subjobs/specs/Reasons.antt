@@ -9,9 +9,9 @@ use Prim.Native.Nat.{ℕ}
 use lib.IntN.{ℤ, pos}
 use mathlib.Core.List.{List, [], _∷_}
 use Rattle.subjobs.specs.declared.Field.{Field}
-use Rattle.subjobs.specs.declared.Field.the-variants.{Release, Execution, Deadline, Critical}
+use Rattle.subjobs.specs.declared.Field.the-variants.{Release, Execution, Deadline, Critical, Hop}
 use Rattle.subjobs.specs.declared.Reason.{Reason}
-use Rattle.subjobs.specs.declared.Reason.the-variants.{Lengths, TooMany, Range, Pair, Late, Unmet, Missed, Totals, TextTooLong, Header, Malformed}
+use Rattle.subjobs.specs.declared.Reason.the-variants.{Lengths, TooMany, Range, Pair, Late, Unmet, Missed, Totals, TextTooLong, Header, Malformed, Stray, Cycle}
 use Rattle.subjobs.specs.declared.Told.{Told}
 
 abbrev pub at : (number place : ℕ) → Told
@@ -22,6 +22,7 @@ fieldNumber Release = 1
 fieldNumber Execution = 2
 fieldNumber Deadline = 3
 fieldNumber Critical = 4
+fieldNumber Hop = 5
 
 abbrev pub tell : Reason → Told
 tell Lengths = at 1 0
@@ -35,6 +36,8 @@ tell Totals = at 8 0
 tell TextTooLong = at 10 0
 tell Header = at 11 1
 tell (Malformed l) = at 12 l
+tell (Stray a) = at 20 a
+tell Cycle = at 21 0
 
 abbrev pub numberOf : Reason → ℕ
 numberOf r = tell r .number

@@ -6,15 +6,17 @@ ghost use Rattle.subjobs.specs.Judging.{Judges};
 
 mod judging;
 
-// A field with a range of its own. The order in which they are looked at is that of `judging::range_at`.
+// A field with a range of its own. The order in which those of a sub-job are looked at is that of `judging::range_at`; a
+// hop delay is an arc's.
 pub enum Field {
     Release,
     Execution,
     Deadline,
     Critical,
+    Hop,
 }
 
-// Why a set, a run, a proposal or a text is refused, with the details that the table of refusals reports.
+// Why a set, a run, a proposal, a text or a graph is refused, with the details that the table of refusals reports.
 pub enum Reason {
     Lengths,
     TooMany,
@@ -42,9 +44,13 @@ pub enum Reason {
     Malformed {
         line: usize,
     },
+    Stray {
+        arc: usize,
+    },
+    Cycle,
 }
 
-// What refusals 1 to 4 say of a set.
+// What refusals 1 to 4 say of a set; what a graph's say of it.
 pub enum Judgement {
     Passed,
     Refused(Reason),
@@ -81,6 +87,7 @@ fn field_number(field: Field) -> u32
         Field::Execution => 2,
         Field::Deadline => 3,
         Field::Critical => 4,
+        Field::Hop => 5,
     }
 }
 
@@ -116,6 +123,8 @@ pub fn tell(reason: Reason) -> Told
         Reason::TextTooLong => at(10, 0),
         Reason::Header => at(11, 1),
         Reason::Malformed { line } => at(12, line),
+        Reason::Stray { arc } => at(20, arc),
+        Reason::Cycle => at(21, 0),
     }
 }
 

@@ -13,11 +13,12 @@ use native.Mathlib.Nat.{add-zero, zero-add, add-suc}
 use native.Mathlib.Omega.{arith}
 use borrow.Author.Tests.{le-leb, lt-ltb}
 use lib.Dec.{ltb, leb, eqb}
-use lib.ListN.{length, getD, replicate, length-set}
+use lib.ListN.{length, getD, length-set}
 use lib.Seq.{getD-set-same, getD-set-other}
 use Rattle.lists.specs.Places.{filter, weight, Nodup}
 use Rattle.lists.proofs.Cases.{split, test, tests, both}
 use Rattle.lists.proofs.Members.{in-filter, filter-in, in-nil, places-in, nodup-from}
+use Rattle.lists.proofs.Mapped.{zeros-at}
 use Rattle.lists.proofs.Sums.{weight-cong, weight-one-more}
 use Rattle.lists.proofs.Choice.{Order, choose-cases, chosen-in, chosen-none, chosen-first}
 use Rattle.subjobs.specs.Sets.{Subjobs, size}
@@ -34,11 +35,6 @@ pub record Counters (L : Load) : Type 0 where
 -- The places of a set of at most 128 have counters.
 pub counters : (s : Subjobs) (ds asks : List ℕ) → size s ≤ 128 → Counters (load s ds asks)
 counters s ds asks few = record { small = λ i m. omega (arith, places-in (size s) i m); once = nodup-from 0 (size s) }
-
-zeros-at : (n i : ℕ) → getD {A = ℕ} (replicate n 0) i 0 ≡ 0
-zeros-at zero i = refl
-zeros-at (suc n) zero = refl
-zeros-at (suc n) (suc i) = zeros-at n i
 
 module _ (L : Load) where
   -- Ticks add up, from any core on.

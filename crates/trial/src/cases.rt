@@ -1,5 +1,6 @@
 // The cases, one after another. A case is the number of its kind (1 assign, 2 simulate, 3 check,
-// 4 table) and what the entry is called with; any other number ends the text.
+// 4 table, 5 critical times from a graph) and what the entry is called with; any other number ends
+// the text.
 use crate::printing;
 use crate::reading;
 use crate::saying;
@@ -23,6 +24,7 @@ fn one(text: &[u8], at: &mut usize) {
     match kind {
         1 | 2 | 3 => of_a_set(kind, text, at),
         4 => table(text, at),
+        5 => critical(text, at),
         _ => *at = text.len(),
     }
 }
@@ -277,4 +279,34 @@ fn output(text: &[u8]) {
     let mut out = [0u8; 7203];
     let n = table::table(text, &mut out);
     printing::bytes(&out[..n]);
+}
+
+// Critical times from a graph: its answer, and the results after the call. Executions, the three
+// lists of the arcs and the results before are read.
+fn critical(text: &[u8], at: &mut usize) {
+    let mut executions = [0u32; 160];
+    let mut befores = [0u32; 1_100];
+    let mut afters = [0u32; 1_100];
+    let mut hops = [0u32; 1_100];
+    let mut results = [0u32; 160];
+    let a = reading::list(text, at, &mut executions);
+    let b = reading::list(text, at, &mut befores);
+    let c = reading::list(text, at, &mut afters);
+    let d = reading::list(text, at, &mut hops);
+    let e = reading::list(text, at, &mut results);
+    found(
+        &executions[..a],
+        &befores[..b],
+        &afters[..c],
+        &hops[..d],
+        &mut results[..e],
+    );
+}
+
+fn found(executions: &[u32], befores: &[u32], afters: &[u32], hops: &[u32], results: &mut [u32]) {
+    match graph::critical(executions, befores, afters, hops, results) {
+        subjobs::Judgement::Passed => saying::say(b"found"),
+        subjobs::Judgement::Refused(reason) => printing::refusal(reason),
+    }
+    printing::list(results);
 }

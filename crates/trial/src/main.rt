@@ -1,7 +1,7 @@
-// The trial: it reads cases of the assignment, the simulator with its totals, the checker and the
-// table, and prints the answers, with the lists as they are afterwards. Its `stdin` and `stdout`
-// are written by the second program, which shares no code with the library, so the gate holds the
-// one to the other.
+// The trial: it reads cases of the assignment, the simulator with its totals, the checker, the
+// table and the graph, and prints the answers, with the lists as they are afterwards. Its `stdin`
+// and `stdout` are written by the second program, which shares no code with the library, so the
+// gate holds the one to the other.
 ghost use mathlib.Core.Path.{_≡_};
 ghost use lib.ListN.{length};
 

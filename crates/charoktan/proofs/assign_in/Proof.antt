@@ -7,7 +7,7 @@ use mathlib.Core.Path.{_≡_, refl, sym, ap, _∙_}
 use native.Mathlib.Omega.{arith}
 use lib.ListN.{length, take, drop, length-take}
 use Rattle.olda.specs.Answers.{answer, results}
-use Rattle.olda.proofs.Results.{refused-within}
+use Rattle.olda.proofs.Results.{refused-within, results-length}
 use Rattle.charoktan.specs.Records.{records, count, encoded}
 use Rattle.charoktan.proofs.Coding.{fields-records}
 use Rattle.charoktan.proofs.Door.{fit-length, answered, assigns, front}
@@ -45,7 +45,7 @@ assign-in-spec =
     (λ c κs.
     let d = c .before .before .before .before .before in
     let bs = Start d .args .records .now in
-    refused-within (records bs) (count bs) (c .before .answer .given .0 .0) (said d .0 ∙ c .before .answer .given .1))
+    omega (arith, refused-within (records bs) (count bs) (c .before .answer .given .0 .0) (said d .0 ∙ c .before .answer .given .1)))
     (λ c. search needs) (λ c. search needs)
     (λ c κs.
     let a = Start (c .before .before .before .before .before .before) in
@@ -74,5 +74,5 @@ assign-in-spec =
     let l = a .args .local .now in
     assigns _ _ refl
     (c .before .before .put-all .ensures
-    ∙ ap encoded (front (records bs) n l _ (a .pre .list) (a .pre .zeros) (ap (λ (o : List ℕ). o ++ drop n l) (said d .1))))
+    ∙ ap encoded (front (results (records bs)) (results-length (records bs)) n l _ (a .pre .list) (a .pre .zeros) (ap (λ (o : List ℕ). o ++ drop n l) (said d .1))))
     (answered bs (a .args .deadlines .now) (a .pre .fits) _ (said d .0 ∙ c .before .before .before .before .before .enum-told2 .given .1))))

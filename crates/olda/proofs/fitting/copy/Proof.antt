@@ -3,7 +3,7 @@ use borrow.Author.Needs.{needs}
 use Prim.Native.Nat.{_-_}
 use mathlib.Core.Path.{_≡_, refl}
 use lib.ListN.{length, length-set}
-use Rattle.olda.proofs.Copied.{Copied, copied-none, copied-next, copied-whole}
+use Rattle.lists.proofs.Copied.{Copied, copied-none, copied-next, copied-whole}
 use Rattle.olda.proofs.fitting.copy.Statement.{statement}
 use Rattle.olda.proofs.fitting.copy.Tie as tie
 

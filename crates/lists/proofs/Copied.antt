@@ -3,10 +3,9 @@ use Prim.Native.Nat.{ℕ, _+_, _<_, _≤_}
 use mathlib.Core.List.{List}
 use mathlib.Core.Path.{_≡_, refl, sym, _∙_}
 use native.Mathlib.Omega.{arith}
-use lib.ListN.{length, take, set, length-set}
+use lib.ListN.{length, getD, take, set, length-set}
 use lib.Seq.{take-all}
 use Rattle.lists.proofs.Mapped.{take-more}
-use Rattle.olda.specs.Parts.{at}
 
 -- The first n numbers of b go into a; i of them are there.
 pub record Copied (a b : List ℕ) (n i : ℕ) : Type 0 where
@@ -18,7 +17,7 @@ pub record Copied (a b : List ℕ) (n i : ℕ) : Type 0 where
 pub copied-none : (a b : List ℕ) (n : ℕ) → n ≤ length a → n ≤ length b → Copied a b n 0
 copied-none a b n h l = record { most = omega arith; room = h; enough = l; same = refl }
 
-pub copied-next : {a b : List ℕ} {n i v : ℕ} → Copied a b n i → i < n → v ≡ at b i → Copied (set a i v) b n (i + 1)
+pub copied-next : {a b : List ℕ} {n i v : ℕ} → Copied a b n i → i < n → v ≡ getD b i 0 → Copied (set a i v) b n (i + 1)
 copied-next {a} {b} {n} {i} k h e =
     record {
       most = omega arith;
