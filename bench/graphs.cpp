@@ -217,7 +217,8 @@ int graphs::agree()
 int graphs::calls(std::string_view name, std::string_view kind, uint32_t size, uint32_t rounds)
 {
     const Program *program = measure::named(programs, name);
-    return program != nullptr ? measure::calls(*program, graphs_of(kind, size), rounds) : 2;
+    return program != nullptr ? measure::calls(*program, graphs_of(kind, size), rounds)
+                              : measure::no_such_program;
 }
 
 int graphs::stack()

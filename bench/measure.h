@@ -1,6 +1,6 @@
-// What the bench does with sets (bench.cpp) and with graphs (graphs.cpp) alike. A program has a
-// name and is called with what is lent to it, as bytes. It is called inlined, so that the stack is
-// measured from the library's caller on.
+// What the bench does with sets (bench.cpp), graphs (graphs.cpp) and rooms (rooms.cpp) alike. A
+// program has a name and is called with what is lent to it, as bytes. It is called inlined, so that
+// the stack is measured from the library's caller on.
 #pragma once
 
 #include "dice.h"
@@ -34,6 +34,9 @@ template <class T> void shuffle(Dice &dice, std::vector<T> &items)
         std::swap(items[i - 1], items[dice.roll(0, i - 1)]);
 }
 
+// The exit status of calls of a program that is none of those asked.
+constexpr int no_such_program = 2;
+
 // The program of this name, or null.
 template <class Program, size_t count>
 const Program *named(const Program (&programs)[count], std::string_view name)
@@ -59,8 +62,8 @@ int calls(const Program &program, std::vector<Lent> all, uint32_t rounds)
 }
 
 // True if the second program leaves the same number and the same bytes as the first.
-template <class Program, class Lent>
-bool alike(const Program &first, const Program &second, Lent lent, uint32_t &number)
+template <class First, class Second, class Lent>
+bool alike(const First &first, const Second &second, Lent lent, uint32_t &number)
 {
     Lent copy = lent;
     number = first(lent);
@@ -70,9 +73,9 @@ bool alike(const Program &first, const Program &second, Lent lent, uint32_t &num
 constexpr uint32_t agreements = 100000;
 
 // False, and says which, if one of so many calls, each made by all programs, is not alike.
-template <class Alike> bool agree(const Alike &next_is_alike)
+template <class Alike> bool agree(const Alike &next_is_alike, uint32_t calls = agreements)
 {
-    for (uint32_t k = 0; k < agreements; ++k)
+    for (uint32_t k = 0; k < calls; ++k)
         if (!next_is_alike()) {
             std::printf("call %u: the library and a baseline differ\n", k);
             return false;
@@ -82,9 +85,10 @@ template <class Alike> bool agree(const Alike &next_is_alike)
 
 // How many of the calls were answered by each of the numbers.
 template <size_t count>
-void print(const char *name, const char *numbers, const uint32_t (&tally)[count])
+void print(const char *name, const char *numbers, const uint32_t (&tally)[count],
+           uint32_t calls = agreements)
 {
-    std::printf("%s: %u calls agree; by number %s:", name, agreements, numbers);
+    std::printf("%s: %u calls agree; by number %s:", name, calls, numbers);
     for (uint32_t n : tally)
         std::printf(" %u", n);
     std::printf("\n");

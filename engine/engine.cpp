@@ -3,7 +3,8 @@
 // pipelines built, its data unpacked and uploaded, all on one core. Before a room is loaded the
 // engine asks charoktan for a local deadline per stage; then it serves, in each tick, the waiting
 // stage whose deadline comes first. A door that opens before its upload has ended is a hitch.
-// play.cpp is the core, graph.cpp the rooms whose stages fork and join.
+// play.cpp is the core, graph.cpp the rooms whose stages fork and join, room.cpp those that are
+// loaded by several cores.
 //
 // A stage is a sub-job: it is released when the stages before it can have ended at the earliest,
 // and its critical time is what the stages after it may take. How long it really takes is rolled;
@@ -11,30 +12,12 @@
 
 #include "dice.h"
 #include "graph.h"
+#include "room.h"
 
 #include <algorithm>
 #include <cstdio>
 
 namespace {
-
-// A room's stages as the library's sub-jobs, four places per door.
-Set subjobs_of(const Room &room)
-{
-    Set set;
-    for (const Door &door : room) {
-        uint32_t before = 0;
-        uint32_t after = 0;
-        for (uint32_t longest : door.longest)
-            after += longest;
-        for (uint32_t stage = 0; stage < stage_count; ++stage) {
-            const uint32_t longest = door.longest[stage];
-            after -= longest;
-            set.push_back({door.number, stage, door.seen + before, longest, door.opened, after});
-            before += longest;
-        }
-    }
-    return set;
-}
 
 // The error that looks right: a door's time shared among its stages by their lengths, blind to the
 // other doors.
@@ -242,6 +225,44 @@ bool play_forked(Dice &dice, uint32_t rooms)
     return broken == 0;
 }
 
+// The set of one core of a rolled room. Some have nothing to do, some are refused whatever their
+// doors are.
+Set random_set(Dice &dice)
+{
+    Set set = subjobs_of(random_room(dice));
+    const uint32_t place = dice.roll(1, static_cast<uint32_t>(set.size()) - 1);
+    switch (dice.roll(1, 12)) {
+    case 1: return {};
+    case 2: set.resize(dice.roll(CHAROKTAN_SUBJOBS_MAX + 1, 160), set[place]); break; // number 2
+    case 3: set[place].execution = 0; break;                                          // number 3
+    case 4: set[place] = set[0]; break;                                               // number 4
+    }
+    return set;
+}
+
+// And rooms of several cores, each assigned with one call.
+bool play_cores(Dice &dice, uint32_t rooms)
+{
+    uint32_t large = 0, broken = 0;
+    std::array<uint32_t, 6> numbers = {};
+    for (uint32_t k = 0; k < rooms; ++k) {
+        std::vector<Set> sets(dice.roll(0, CHAROKTAN_SETS_MAX + 2));
+        for (Set &set : sets)
+            set = random_set(dice);
+        const Cores cores = load_cores(sets);
+        large += cores.call == charoktan::refusal::too_large;
+        broken += !cores.kept;
+        for (size_t number = 0; number < numbers.size(); ++number)
+            numbers[number] += cores.numbers[number];
+    }
+    std::printf("%u rooms of several cores, one call each: %u refused by number 22, %u not as "
+                "promised\n",
+                rooms, large, broken);
+    std::printf("their cores: %u accepted; refused: %u by number 2, %u by 3, %u by 4, %u by 5\n",
+                numbers[0], numbers[2], numbers[3], numbers[4], numbers[5]);
+    return broken == 0;
+}
+
 } // namespace
 
 int main()
@@ -252,9 +273,12 @@ int main()
     const bool nothing = show_nothing();
     const bool builds = show_two_builds();
     const bool graphs = show_graphs();
+    const bool cores = show_cores();
     const bool rooms = play_rooms(dice, 2000);
     const bool forked = play_forked(dice, 500);
-    const bool kept = room && refusals && nothing && builds && graphs && rooms && forked;
+    const bool many = play_cores(dice, 100);
+    const bool kept =
+        room && refusals && nothing && builds && graphs && cores && rooms && forked && many;
     std::printf("%s\n", kept ? "every promise was kept" : "A PROMISE WAS BROKEN");
     return kept ? 0 : 1;
 }

@@ -1,4 +1,4 @@
-// The core of play.h, and what is printed of its runs.
+// The sets and the core of play.h, and what is printed of its runs.
 #include "play.h"
 
 #include <algorithm>
@@ -31,6 +31,24 @@ std::vector<std::vector<uint32_t>> forerunners(const Set &set, const Arcs &arcs)
 }
 
 } // namespace
+
+Set subjobs_of(const Room &room)
+{
+    Set set;
+    for (const Door &door : room) {
+        uint32_t before = 0;
+        uint32_t after = 0;
+        for (uint32_t longest : door.longest)
+            after += longest;
+        for (uint32_t stage = 0; stage < stage_count; ++stage) {
+            const uint32_t longest = door.longest[stage];
+            after -= longest;
+            set.push_back({door.number, stage, door.seen + before, longest, door.opened, after});
+            before += longest;
+        }
+    }
+    return set;
+}
 
 Play play(const Set &set, const Arcs &arcs, const Moments &deadlines, const Moments &taken)
 {

@@ -26,6 +26,9 @@ using Set = std::vector<charoktan::subjob>;
 using Arcs = std::vector<charoktan::arc>; // between places of a set
 using Moments = std::vector<uint32_t>;
 
+// A room's stages as the library's sub-jobs, four places per door.
+Set subjobs_of(const Room &room);
+
 // What a run of the core came to.
 struct Play {
     Moments ended;

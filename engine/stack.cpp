@@ -1,5 +1,6 @@
 // The stack figures of charoktan.h, held to what calls of each entry take: sets of 0 to 128
-// sub-jobs and more, graphs of 0 to 1,024 arcs and more, accepted and refused by every number.
+// sub-jobs and more, rooms of 0 to 32 sets and more, graphs of 0 to 1,024 arcs and more, accepted
+// and refused by every number.
 #include "charoktan.h"
 #include "painted.h"
 
@@ -27,17 +28,40 @@ struct Measured {
     size_t most = 0;
     uint32_t numbers = 0; // one bit per number that was returned
 
-    template <class Call> void add(const Call &call)
+    template <class Call> uint32_t add(const Call &call)
     {
         uint32_t returned = 0;
         most = std::max(most, painted::depth([&] { returned = call(); }));
         numbers |= 1U << charoktan_number(returned);
+        return returned;
     }
 };
 
-Measured assign, check, critical;
+Measured assign, room, check, critical;
+uint32_t set_numbers = 0; // one bit per number that a set of a room got
 
-// Both entries on a set with these deadlines, or with fewer bytes of them.
+// A room of so many sets, all alike, with fewer bytes of deadlines if one likes.
+void add_room(const Set &set, size_t sets, size_t less = 0)
+{
+    Set all;
+    for (size_t k = 0; k < sets; ++k)
+        all.insert(all.end(), set.begin(), set.end());
+    const Moments lengths(sets, static_cast<uint32_t>(set.size()));
+    Moments deadlines(all.size()), numbers(sets), places(sets);
+    const uint32_t returned = room.add([&] {
+        return charoktan_room(reinterpret_cast<const uint8_t *>(all.data()), all.size() * 24,
+                              reinterpret_cast<const uint8_t *>(lengths.data()), sets * 4,
+                              reinterpret_cast<uint8_t *>(deadlines.data()),
+                              deadlines.size() * 4 - less,
+                              reinterpret_cast<uint8_t *>(numbers.data()), sets * 4,
+                              reinterpret_cast<uint8_t *>(places.data()), sets * 4);
+    });
+    for (uint32_t number : numbers)
+        if (returned == CHAROKTAN_ACCEPTED)
+            set_numbers |= 1U << number;
+}
+
+// The entries on a set with these deadlines, or with fewer bytes of them.
 void add_set(const Set &set, Moments deadlines, size_t less = 0)
 {
     const auto *records = reinterpret_cast<const uint8_t *>(set.data());
@@ -45,6 +69,8 @@ void add_set(const Set &set, Moments deadlines, size_t less = 0)
     const size_t length = deadlines.size() * 4 - less;
     check.add([&] { return charoktan_check(records, set.size() * 24, bytes, length); });
     assign.add([&] { return charoktan_assign(records, set.size() * 24, bytes, length); });
+    for (size_t sets : {1, 2, 32})
+        add_room(set, sets, less);
 }
 
 void measure_sets(uint32_t n)
@@ -121,20 +147,25 @@ void measure_graphs(uint32_t n, uint32_t m)
     add_graph(executions, arcs); // number 21
 }
 
-// The figure is kept, and these numbers came and no other.
+// These numbers came, one bit each, and no other.
+bool came(const char *entry, uint32_t numbers, std::initializer_list<uint32_t> all)
+{
+    uint32_t wanted = 0;
+    for (uint32_t number : all)
+        wanted |= 1U << number;
+    if (numbers != wanted)
+        std::printf("the numbers of %s that came are %#x, not %#x\n", entry, numbers, wanted);
+    return numbers == wanted;
+}
+
+// The figure is kept, and these numbers came.
 bool holds(const char *entry, const Measured &measured, size_t figure,
            std::initializer_list<uint32_t> all)
 {
-    uint32_t numbers = 0;
-    for (uint32_t number : all)
-        numbers |= 1U << number;
     const bool kept = measured.most <= figure && 4 * measured.most >= 3 * figure;
     std::printf("%s takes %zu bytes of stack, charoktan.h says %zu%s\n", entry, measured.most,
                 figure, kept ? "" : ": WRONG");
-    if (measured.numbers != numbers)
-        std::printf("the numbers of %s that came are %#x, not %#x\n", entry, measured.numbers,
-                    numbers);
-    return kept && measured.numbers == numbers;
+    return came(entry, measured.numbers, all) && kept;
 }
 
 } // namespace
@@ -143,10 +174,15 @@ int main()
 {
     for (uint32_t n : {0, 1, 2, 3, 4, 7, 8, 9, 10, 16, 17, 64, 127, 128, 129})
         measure_sets(n);
+    for (uint32_t n : {0, 1, 128})
+        for (size_t sets : {0, 33})
+            add_room(accepted_set(n), sets); // number 22 by the second
     for (uint32_t n : {0, 1, 2, 8, 9, 64, 128, 129})
         for (uint32_t m : {0, 1, 127, 1024, 1025})
             measure_graphs(n, m);
     bool kept = holds("charoktan_assign", assign, CHAROKTAN_STACK_ASSIGN, {0, 1, 2, 3, 4, 5});
+    kept &= holds("charoktan_room", room, CHAROKTAN_STACK_ROOM, {0, 1, 22});
+    kept &= came("its sets", set_numbers, {0, 2, 3, 4, 5});
     kept &= holds("charoktan_check", check, CHAROKTAN_STACK_CHECK, {0, 1, 2, 3, 4, 6, 7});
     kept &= holds("charoktan_critical", critical, CHAROKTAN_STACK_CRITICAL, {0, 1, 2, 3, 20, 21});
     return kept ? 0 : 1;

@@ -1,21 +1,23 @@
-/* Charoktan: local deadlines for the loading sub-jobs of one preemptive console core.
+/* Charoktan: local deadlines for the loading sub-jobs of preemptive console cores.
  *
  * For C11 and C++17 and later. Link libcharoktan.a; it is for x86-64 Linux, there is none for
- * Windows, and of the C library it needs at most memcpy and memset. A set is 0 to 128 sub-jobs, an
- * array of the struct below; places in it count from 0, time is counted in whole ticks.
- * charoktan_assign gives every sub-job its local deadline or refuses the set, charoktan_check
- * judges deadlines that anybody proposes, and charoktan_critical finds the sub-jobs' critical times
- * from the graph of what comes before what. The number that they return and every byte that they
- * write are proved, for all bytes and all lengths lent to them. docs/RULES.md has the rules.
+ * Windows, and of the C library it needs at most memcpy and memset. A set is the 0 to 128 sub-jobs
+ * of one core, an array of the struct below; places in it count from 0, time is counted in whole
+ * ticks. charoktan_assign gives every sub-job its local deadline or refuses the set, charoktan_room
+ * does so for the sets of all cores of a room in one call, charoktan_check judges deadlines that
+ * anybody proposes, and charoktan_critical finds the sub-jobs' critical times from the graph of
+ * what comes before what. The number that they return and every byte that they write are proved,
+ * for all bytes and all lengths lent to them. docs/RULES.md has the rules.
  *
  * What the caller owes
  *
- *   - A call is lent two or three slices, each a pointer and a length. Each pointer points to that
- *     many bytes that may be read until the call returns; the deadlines of charoktan_assign and the
- *     results of charoktan_critical may be written too.
+ *   - A call is lent two to five slices, each a pointer and a length. Each pointer points to that
+ *     many bytes that may be read until the call returns. Those that the entry takes without const
+ *     may be written too: the deadlines of charoktan_assign, the deadlines, numbers and places of
+ *     charoktan_room, the results of charoktan_critical.
  *   - No two slices of a call overlap.
- *   - During the call no other thread writes to any of them, nor reads the deadlines or results
- *     that it is writing.
+ *   - During the call no other thread writes to any of them, nor reads those that it may be
+ *     writing.
  *   - A null pointer comes only with length 0; it is then the slice of no bytes.
  *   - The stack has room for one call: enum charoktan_stack below, as measured.
  *
@@ -24,16 +26,18 @@
  *
  * What the caller gets
  *
- *   - Nothing outside the slices of the call is touched, and records, executions and arcs are never
- *     written. After acceptance charoktan_assign has written all the deadlines and
+ *   - Nothing outside the slices of the call is touched, and records, lengths, executions and arcs
+ *     are never written. After acceptance charoktan_assign has written all the deadlines and
  *     charoktan_critical all the results; after a refusal they hold what they held before.
- *     charoktan_check writes nothing.
+ *     charoktan_room has written all the numbers and places, and all the deadlines of each set that
+ *     it accepted; those of a set that it refused, and after a refusal of the call itself all
+ *     three, hold what they held before. charoktan_check writes nothing.
  *   - No memory is allocated, no exception thrown, no state kept: any number of threads may call
- *     at once, also on the same records, executions and arcs.
+ *     at once, also on the same records, lengths, executions and arcs.
  *
  * Sanitizers: the archive is not instrumented. They do not see what it reads and writes, and
- * MemorySanitizer takes the deadlines and critical times that it wrote for uninitialised: after an
- * acceptance call __msan_unpoison on them.
+ * MemorySanitizer takes the deadlines, numbers, places and critical times that it wrote for
+ * uninitialised: after an acceptance call __msan_unpoison on them.
  */
 #ifndef CHAROKTAN_H
 #define CHAROKTAN_H
@@ -99,23 +103,27 @@ static_assert(sizeof(charoktan_arc) == 12, "charoktan.h: three 32-bit numbers, n
 /* The most sub-jobs of a set, and the most arcs of a graph. */
 enum { CHAROKTAN_SUBJOBS_MAX = 128, CHAROKTAN_ARCS_MAX = 1024 };
 
-/* The stack that one call takes at most, in bytes, on any set or graph, with its return address and
- * what memcpy and memset take. A small set or graph may take as much as a large one. engine/stack.cpp
- * measures it on painted stacks: the gate fails if a call takes more, or if no call takes three
- * quarters. Where memset is bound at its first call, the dynamic linker's own stack comes on top
- * (-Wl,-z,now binds it before). */
+/* The most sets of a room, and the most sub-jobs of all its sets. */
+enum { CHAROKTAN_SETS_MAX = 32, CHAROKTAN_PLACES_MAX = 4096 };
+
+/* The stack that one call takes at most, in bytes, on any set, room or graph, with its return
+ * address and what memcpy and memset take. A small one may take as much as a large one.
+ * engine/stack.cpp measures it on painted stacks: the gate fails if a call takes more, or if no
+ * call takes three quarters. Where memset is bound at its first call, the dynamic linker's own
+ * stack comes on top (-Wl,-z,now binds it before). */
 enum charoktan_stack {
     CHAROKTAN_STACK_ASSIGN = 6656,   /* charoktan_assign */
+    CHAROKTAN_STACK_ROOM = 6784,     /* charoktan_room */
     CHAROKTAN_STACK_CHECK = 6144,    /* charoktan_check */
     CHAROKTAN_STACK_CRITICAL = 20480 /* charoktan_critical */
 };
 
-/* The numbers that the door gives, and the place that comes with each. They are judged in this
- * order. 1 to 3 are every entry's; 4 is that of charoktan_assign and charoktan_check, 5 is the
- * first's alone, 6 and 7 are the second's; 20 and 21 are charoktan_critical's. */
+/* The numbers that the door gives, and the place that comes with each. charoktan_assign judges 1 to
+ * 5, charoktan_check 1 to 4, 6 and 7, charoktan_critical 1 to 3, 20 and 21, each in this order;
+ * charoktan_room judges 1 and 22, and then 2 to 5 of each set. */
 enum charoktan_refusal {
     CHAROKTAN_ACCEPTED = 0, /* no refusal (place 0); no sub-jobs, with no arcs, are accepted */
-    CHAROKTAN_LENGTHS = 1,  /* not the bytes per sub-job and arc that the entry says (place 0) */
+    CHAROKTAN_LENGTHS = 1,  /* not the bytes that the entry says, or not adding up (place 0) */
     CHAROKTAN_TOO_MANY = 2, /* more than 128 sub-jobs, or more than 1,024 arcs (place 0) */
     CHAROKTAN_FIELD = 3,    /* a field is out of range (smallest such place; a hop: its arc's) */
     CHAROKTAN_PAIR = 4,     /* the pair (job, subtask) was seen earlier (smallest later place) */
@@ -123,7 +131,8 @@ enum charoktan_refusal {
     CHAROKTAN_OUTSIDE = 6,  /* not release + execution <= deadline <= upper bound (smallest) */
     CHAROKTAN_MISSED = 7,   /* served in full by these deadlines it ends after its own (smallest) */
     CHAROKTAN_STRAY = 20,   /* an arc names no sub-job (smallest such arc's place) */
-    CHAROKTAN_CYCLE = 21    /* a path comes back to its start (place 0) */
+    CHAROKTAN_CYCLE = 21,   /* a path comes back to its start (place 0) */
+    CHAROKTAN_TOO_LARGE = 22 /* more than 32 sets, or more than 4,096 sub-jobs in all (place 0) */
 };
 
 /* Assigns: reads a charoktan_subjob per sub-job, 24 bytes each, and writes its local deadline, 4
@@ -133,6 +142,24 @@ enum charoktan_refusal {
 CHAROKTAN_NODISCARD uint32_t charoktan_assign(const uint8_t *records, size_t records_len,
                                               uint8_t *deadlines,
                                               size_t deadlines_len) CHAROKTAN_NOEXCEPT;
+
+/* Assigns for all cores of a room: reads the charoktan_subjobs of its sets, 24 bytes each, one set
+ * after another, and the length of each set, 4 bytes each (a uint32_t: how many sub-jobs it has).
+ * With each set in turn it does what charoktan_assign does with that set alone. It writes the set's
+ * deadlines, 4 bytes each, at the places where its sub-jobs stand, and into two further lists the
+ * set's number and place, 4 bytes each, one entry per set; that place counts from the start of the
+ * set. A refused set leaves its deadlines as they were and does not stop the next. A length of 0 is
+ * a set with nothing to place; a length above 128 is that set's number 2. Returns 0; or 1 if the
+ * bytes are not those or the lengths do not add up to the sub-jobs, and otherwise 22 if there are
+ * more than 32 sets or 4,096 sub-jobs.
+ *
+ * 0 says that the call was made. It does NOT say that a set was accepted: look at each number. 1
+ * and 22 come before anything is written, so the lists of numbers and places say nothing then. */
+CHAROKTAN_NODISCARD uint32_t charoktan_room(const uint8_t *records, size_t records_len,
+                                            const uint8_t *lengths, size_t lengths_len,
+                                            uint8_t *deadlines, size_t deadlines_len,
+                                            uint8_t *numbers, size_t numbers_len, uint8_t *places,
+                                            size_t places_len) CHAROKTAN_NOEXCEPT;
 
 /* Judges proposed deadlines, 4 bytes per sub-job and record of 24: returns 0 exactly when, numbers
  * 1 to 4 passed, every one lies between release + execution and the upper bound, and of every
@@ -156,7 +183,8 @@ CHAROKTAN_NODISCARD uint32_t charoktan_critical(const uint8_t *executions, size_
                                                 uint8_t *results,
                                                 size_t results_len) CHAROKTAN_NOEXCEPT;
 
-/* The refusal number in what the door returned: one of enum charoktan_refusal. */
+/* The refusal number in what the door returned: one of enum charoktan_refusal. (The numbers and
+ * places that charoktan_room wrote are apart already.) */
 CHAROKTAN_INLINE uint32_t charoktan_number(uint32_t returned) CHAROKTAN_NOEXCEPT
 {
     return returned % 65536U;
@@ -174,7 +202,7 @@ CHAROKTAN_INLINE const char *charoktan_refusal_text(uint32_t number) CHAROKTAN_N
     switch (number) {
     case CHAROKTAN_ACCEPTED: return "The call is accepted.";
     case CHAROKTAN_LENGTHS:
-        return "The lengths leave bytes over, or are not one deadline or result per sub-job.";
+        return "The lists leave bytes over or differ in length, or a room's lengths do not add up.";
     case CHAROKTAN_TOO_MANY: return "There are more than 128 sub-jobs, or more than 1,024 arcs.";
     case CHAROKTAN_FIELD:
         return "A field of this sub-job, or the hop delay of this arc, is out of its range.";
@@ -185,6 +213,7 @@ CHAROKTAN_INLINE const char *charoktan_refusal_text(uint32_t number) CHAROKTAN_N
     case CHAROKTAN_MISSED: return "By these deadlines this sub-job would end after its own.";
     case CHAROKTAN_STRAY: return "This arc names a place at which there is no sub-job.";
     case CHAROKTAN_CYCLE: return "Some path of arcs comes back to the sub-job that it starts at.";
+    case CHAROKTAN_TOO_LARGE: return "The room has more than 32 sets or more than 4,096 sub-jobs.";
     default: return "This is no number of the door.";
     }
 }
@@ -197,9 +226,9 @@ CHAROKTAN_INLINE const char *charoktan_refusal_text(uint32_t number) CHAROKTAN_N
 #include <span>
 #endif
 
-/* The same door with types: sub-jobs in, uint32_t deadlines out; uint32_t executions and arcs in,
- * uint32_t critical times out; counts in the place of bytes. The caller owes what is written above.
- * Nothing is copied. */
+/* The same door with types: sub-jobs in, uint32_t deadlines out, for a room with uint32_t lengths
+ * in and numbers and places out; uint32_t executions and arcs in, uint32_t critical times out;
+ * counts in the place of bytes. The caller owes what is written above. Nothing is copied. */
 namespace charoktan {
 
 using subjob = charoktan_subjob;
@@ -215,26 +244,64 @@ enum class refusal : uint32_t {
     outside = CHAROKTAN_OUTSIDE,
     missed = CHAROKTAN_MISSED,
     stray = CHAROKTAN_STRAY,
-    cycle = CHAROKTAN_CYCLE
+    cycle = CHAROKTAN_CYCLE,
+    too_large = CHAROKTAN_TOO_LARGE
 };
 
-/* What the door returned, taken apart. */
+/* What the door returned, or wrote of a room's set, taken apart. */
 class [[nodiscard]] answer {
 public:
-    constexpr explicit answer(uint32_t returned) noexcept : returned_(returned) {}
+    constexpr explicit answer(uint32_t returned) noexcept
+        : answer(charoktan_number(returned), charoktan_place(returned))
+    {
+    }
+    constexpr answer(uint32_t number, uint32_t place) noexcept : number_(number), place_(place) {}
     [[nodiscard]] constexpr bool accepted() const noexcept { return number() == refusal::none; }
     [[nodiscard]] constexpr refusal number() const noexcept
     {
-        return static_cast<refusal>(charoktan_number(returned_));
+        return static_cast<refusal>(number_);
     }
-    [[nodiscard]] constexpr uint32_t place() const noexcept { return charoktan_place(returned_); }
+    [[nodiscard]] constexpr uint32_t place() const noexcept { return place_; }
     [[nodiscard]] constexpr const char *text() const noexcept
     {
-        return charoktan_refusal_text(charoktan_number(returned_));
+        return charoktan_refusal_text(number_);
     }
 
 private:
-    uint32_t returned_;
+    uint32_t number_, place_;
+};
+
+/* What a call for a room came to. It has no accepted(), since a call that was made may have refused
+ * any of its sets: ask for all of them, or for each. It reads the numbers and places where they
+ * were lent to the call, so it is good for as long as these are there and hold what was written. */
+class [[nodiscard]] room_answer {
+public:
+    constexpr room_answer(answer call, const uint32_t *numbers, const uint32_t *places,
+                          size_t sets) noexcept
+        : call_(call), numbers_(numbers), places_(places), sets_(sets)
+    {
+    }
+    /* The call itself: accepted, or refused by 1 or 22 before it looked at a set. */
+    [[nodiscard]] constexpr answer call() const noexcept { return call_; }
+    /* The set at this index, which is below the count of lengths; if the call was refused, then
+     * each set is, by the same number. */
+    [[nodiscard]] constexpr answer of(size_t set) const noexcept
+    {
+        return call_.accepted() ? answer(numbers_[set], places_[set]) : call_;
+    }
+    /* The call was made, and every set was accepted. */
+    [[nodiscard]] constexpr bool all_accepted() const noexcept
+    {
+        for (size_t set = 0; set < sets_; ++set)
+            if (!of(set).accepted())
+                return false;
+        return call_.accepted();
+    }
+
+private:
+    answer call_;
+    const uint32_t *numbers_, *places_;
+    size_t sets_;
 };
 
 [[nodiscard]] inline answer assign(const subjob *subjobs, size_t subjobs_count, uint32_t *deadlines,
@@ -243,6 +310,21 @@ private:
     return answer(charoktan_assign(
         reinterpret_cast<const uint8_t *>(subjobs), subjobs_count * sizeof(subjob),
         reinterpret_cast<uint8_t *>(deadlines), deadlines_count * sizeof(uint32_t)));
+}
+
+[[nodiscard]] inline room_answer room(const subjob *subjobs, size_t subjobs_count,
+                                      const uint32_t *lengths, size_t lengths_count,
+                                      uint32_t *deadlines, size_t deadlines_count,
+                                      uint32_t *numbers, size_t numbers_count, uint32_t *places,
+                                      size_t places_count) noexcept
+{
+    const answer call(
+        charoktan_room(reinterpret_cast<const uint8_t *>(subjobs), subjobs_count * sizeof(subjob),
+                       reinterpret_cast<const uint8_t *>(lengths), lengths_count * sizeof(uint32_t),
+                       reinterpret_cast<uint8_t *>(deadlines), deadlines_count * sizeof(uint32_t),
+                       reinterpret_cast<uint8_t *>(numbers), numbers_count * sizeof(uint32_t),
+                       reinterpret_cast<uint8_t *>(places), places_count * sizeof(uint32_t)));
+    return room_answer(call, numbers, places, lengths_count);
 }
 
 [[nodiscard]] inline answer check(const subjob *subjobs, size_t subjobs_count,
@@ -271,6 +353,15 @@ private:
     return assign(subjobs.data(), subjobs.size(), deadlines.data(), deadlines.size());
 }
 
+[[nodiscard]] inline room_answer room(std::span<const subjob> subjobs,
+                                      std::span<const uint32_t> lengths,
+                                      std::span<uint32_t> deadlines, std::span<uint32_t> numbers,
+                                      std::span<uint32_t> places) noexcept
+{
+    return room(subjobs.data(), subjobs.size(), lengths.data(), lengths.size(), deadlines.data(),
+                deadlines.size(), numbers.data(), numbers.size(), places.data(), places.size());
+}
+
 [[nodiscard]] inline answer check(std::span<const subjob> subjobs,
                                   std::span<const uint32_t> deadlines) noexcept
 {
@@ -292,6 +383,16 @@ template <class Subjobs, class Deadlines>
 {
     return assign(std::data(subjobs), std::size(subjobs), std::data(deadlines),
                   std::size(deadlines));
+}
+
+/* No temporaries for the numbers and places: the answer reads them after the call. */
+template <class Subjobs, class Lengths, class Deadlines, class Numbers, class Places>
+[[nodiscard]] room_answer room(const Subjobs &subjobs, const Lengths &lengths,
+                               Deadlines &&deadlines, Numbers &numbers, Places &places) noexcept
+{
+    return room(std::data(subjobs), std::size(subjobs), std::data(lengths), std::size(lengths),
+                std::data(deadlines), std::size(deadlines), std::data(numbers), std::size(numbers),
+                std::data(places), std::size(places));
 }
 
 template <class Subjobs, class Deadlines>

@@ -1,24 +1,28 @@
-// Random calls of the engine's door: sets and graphs as bytes, damaged here and there.
+// Random calls of the engine's door: sets, graphs and rooms as bytes, damaged here and there.
 #include "calls.hpp"
 #include "graphs.hpp"
 #include "rearranged.hpp"
+#include "rooms.hpp"
 
 #include <algorithm>
 
 const Entry& entry(Kind kind) {
-    static const Entry entries[] = {{"assign", {"records", "deadlines"}},
-                                    {"check", {"records", "deadlines"}},
-                                    {"critical", {"executions", "arcs", "results"}}};
+    static const Entry entries[] = {
+        {"assign", {"records", "deadlines"}},
+        {"check", {"records", "deadlines"}},
+        {"critical", {"executions", "arcs", "results"}},
+        {"room", {"records", "lengths", "deadlines", "numbers", "places"}}};
     return entries[kind - 1];
 }
 
 static Reply expected(const Call& call) {
     Reply reply{0, call.slices};
-    auto& [first, second, third] = reply.slices;
+    auto& [a, b, c, d, e] = reply.slices;
     switch (call.kind) {
-    case ASSIGN: reply.returned = door_assign(first, second); break;
-    case CHECK: reply.returned = door_check(first, second); break;
-    case CRITICAL_TIMES: reply.returned = door_critical(first, second, third);
+    case ASSIGN: reply.returned = door_assign(a, b); break;
+    case CHECK: reply.returned = door_check(a, b); break;
+    case CRITICAL_TIMES: reply.returned = door_critical(a, b, c); break;
+    case ROOM: reply.returned = door_room(a, b, c, d, e);
     }
     return reply;
 }
@@ -31,10 +35,12 @@ static Bytes random_bytes(Dice& dice, std::size_t n) {
     return bytes;
 }
 
-// A length that does not fit: some bytes or whole entries more or fewer.
+// A length that does not fit: some bytes or whole entries more or fewer, or none.
 static void damage_length(Dice& dice, Bytes& bytes) {
     const u32 by = dice.one_of({1, 2, 3, 4, 8, 12, 20, 23, 24, 25});
-    if (dice.chance(50))
+    if (dice.chance(10))
+        bytes.clear();
+    else if (dice.chance(50))
         bytes.resize(bytes.size() + by, 1);
     else
         bytes.erase(bytes.begin(), bytes.begin() + std::min<std::ptrdiff_t>(std::ssize(bytes), by));
@@ -69,7 +75,7 @@ static void lend_set(Dice& dice, Call& call) {
               : roll < 20 ? tied_set(dice, n)
                           : random_set(dice, n);
     while (n > 0 && dice.chance(7)) make_wrong(dice, set);
-    auto& [records, deadlines, none] = call.slices;
+    Bytes &records = call.slices[0], &deadlines = call.slices[1];
     records = encode(set);
     if (call.kind == ASSIGN)
         deadlines = random_bytes(dice, 4 * n);
@@ -85,7 +91,7 @@ static Refused refused(u32 returned) {
 // A call whose slices fit, on the same records in another order. The reply is made from the first
 // one's and must be the rules' own.
 static Case rearranged_set(Dice& dice, const Case& first) {
-    const auto& [records, deadlines, none] = first.call.slices;
+    const Bytes &records = first.call.slices[0], &deadlines = first.call.slices[1];
     const Order order = random_order(dice, records.size() / 24);
     const Call call{first.call.kind,
                     first.call.placement,
@@ -121,7 +127,7 @@ static void lend_graph(Dice& dice, Call& call) {
     Graph graph = graph_of_some_size(dice);
     while (!graph.execution.empty() && dice.chance(20)) close_cycle(dice, graph);
     while (dice.chance(10)) make_wrong(dice, graph);
-    auto& [executions, arcs, results] = call.slices;
+    Bytes &executions = call.slices[0], &arcs = call.slices[1], &results = call.slices[2];
     executions = encode(graph.execution);
     arcs = encode_arcs(graph);
     results = random_bytes(dice, executions.size());
@@ -138,14 +144,57 @@ static Case told_again(Dice& dice, const Case& first) {
     return again;
 }
 
+// ---------------------------------------------------------------- rooms
+
+// Mostly a few sets, some of all numbers up to the most and beyond it, a few around the most
+// places.
+static Room room_of_some_size(Dice& dice) {
+    const u32 roll = dice.below(1000);
+    if (roll < 4) return crowded_room(dice);
+    const u32 sets = roll < 40   ? dice.between(32, 34)
+                     : roll < 80 ? dice.between(7, 31)
+                                 : dice.below(7);
+    return random_room(dice, sets, 1);
+}
+
+static Slices encode(const Room& room, const Outcome& outcome) {
+    return {encode(room.sets), encode(room.lengths), encode(outcome.deadlines),
+            encode(outcome.numbers), encode(outcome.places)};
+}
+
+static void lend_room(Dice& dice, Call& call) {
+    Room room = room_of_some_size(dice);
+    if (dice.chance(6)) make_sum_wrong(dice, room);
+    call.slices = encode(room, random_outcome(dice, room));
+}
+
+// A room with sets of one that was not refused, and with others. What each set gets was answered
+// with the room it comes from, and must be the rules' own here too.
+static Case mixed_room(Dice& dice, const Case& first) {
+    const auto& [records, lengths, deadlines, numbers, places] = first.call.slices;
+    const Slices& after = first.reply.slices;
+    const RoomCall one{decode_room(records, lengths),
+                       decode_outcome(deadlines, numbers, places),
+                       decode_outcome(after[2], after[3], after[4]),
+                       {}};
+    const Room others = random_room(dice, 2, 0);
+    const RoomCall made = mixed(dice, one, answered(others, random_outcome(dice, others)));
+    const Call call{ROOM, first.call.placement, encode(made.room, made.before)};
+    const Reply reply{0, encode(made.room, made.after)};
+    must_agree(expected(call) == reply);
+    return {call, reply, true};
+}
+
 // ---------------------------------------------------------------- cases
 
 static Call random_call(Dice& dice) {
     Call call;
-    const u32 roll = dice.below(8);
-    call.kind = roll < 2 ? CRITICAL_TIMES : roll < 5 ? ASSIGN : CHECK;
-    call.placement = dice.below(16);
-    if (call.kind == CRITICAL_TIMES)
+    const u32 roll = dice.below(16);
+    call.kind = roll < 2 ? ROOM : roll < 6 ? CRITICAL_TIMES : roll < 11 ? ASSIGN : CHECK;
+    call.placement = dice.below(64);
+    if (call.kind == ROOM)
+        lend_room(dice, call);
+    else if (call.kind == CRITICAL_TIMES)
         lend_graph(dice, call);
     else
         lend_set(dice, call);
@@ -169,7 +218,19 @@ static Case random_case(Dice& dice) {
 // Whether the rules say what becomes of a case in another order.
 static bool stays(const Case& one) {
     const u32 number = one.reply.returned % 65'536;
-    return one.call.kind == CRITICAL_TIMES ? number == 0 || number == 21 : number != 1;
+    switch (one.call.kind) {
+    case CRITICAL_TIMES: return number == 0 || number == 21;
+    case ROOM: return number == 0;
+    default: return number != 1;
+    }
+}
+
+static Case once_more(Dice& dice, const Case& first) {
+    switch (first.call.kind) {
+    case CRITICAL_TIMES: return told_again(dice, first);
+    case ROOM: return mixed_room(dice, first);
+    default: return rearranged_set(dice, first);
+    }
 }
 
 std::vector<Case> random_batch(Dice& dice, u64 size) {
@@ -178,8 +239,7 @@ std::vector<Case> random_batch(Dice& dice, u64 size) {
         batch.push_back(random_case(dice));
         const Case& first = batch.back();
         if (!stays(first) || batch.size() == size || !dice.chance(25)) continue;
-        batch.push_back(first.call.kind == CRITICAL_TIMES ? told_again(dice, first)
-                                                          : rearranged_set(dice, first));
+        batch.push_back(once_more(dice, first));
     }
     return batch;
 }

@@ -3,6 +3,7 @@
 // Whole tables by another seed are written in the same form and stored nowhere.
 #include "commands.hpp"
 #include "graphs.hpp"
+#include "rooms.hpp"
 #include "trial.hpp"
 
 #include <algorithm>
@@ -603,18 +604,19 @@ static void write_file(const std::filesystem::path& path, const std::string& tex
     if (!file) throw std::runtime_error("cannot write " + path.string());
 }
 
-// `trial` has room for a mebibyte of cases.
-static constexpr std::size_t ROOM = 1'048'576;
+// `trial` takes two mebibytes of cases.
+static constexpr std::size_t MOST_BYTES = 2'097'152;
 
 static void write_trial(Trial& trial, const std::filesystem::path& folder) {
     trial.ask_end();
-    if (trial.in.size() > ROOM) throw std::runtime_error("more cases than trial has room for");
+    if (trial.in.size() > MOST_BYTES) throw std::runtime_error("more cases than trial takes");
     std::filesystem::create_directories(folder);
     write_file(folder / "trial.stdin", trial.in);
     write_file(folder / "trial.stdout", trial.out);
     std::cout << "assign " << trial.count[1] << ", simulate " << trial.count[2] << ", check "
               << trial.count[3] << ", table " << trial.count[4] << ", critical times "
-              << trial.count[5] << " cases; " << trial.in.size() + trial.out.size() << " bytes\n";
+              << trial.count[5] << ", room " << trial.count[6] << " cases; "
+              << trial.in.size() + trial.out.size() << " bytes\n";
 }
 
 int write_cases(const std::string& folder) {
@@ -640,6 +642,7 @@ int write_cases(const std::string& folder) {
     for (int k = 0; k < 30; ++k) check_pair(trial, dice);
     for (int k = 0; k < 30; ++k) table_pair(trial, dice);
     ask_graphs(trial);
+    ask_rooms(trial);
 
     const std::filesystem::path top(folder);
     write_trial(trial, top);

@@ -83,8 +83,8 @@ private:
 };
 
 // All numbers on the pipe are 32 bits, little-endian. A batch is its length in bytes and its calls;
-// a call is kind, placement, the three lengths and the three slices. The reply to a call is what
-// was returned and the three slices after the call.
+// a call is kind, placement, the five lengths and the five slices. The reply to a call is what was
+// returned and the five slices after the call.
 static void append(Bytes& bytes, const Bytes& more) {
     bytes.insert(bytes.end(), more.begin(), more.end());
 }
@@ -108,7 +108,7 @@ static std::optional<Reply> receive_reply(Runner& runner, const Call& call) {
     if (!runner.receive(number)) return {};
     for (Bytes& slice : reply.slices)
         if (!runner.receive(slice)) return {};
-    reply.returned = number[0] | u32{number[1]} << 8 | u32{number[2]} << 16 | u32{number[3]} << 24;
+    reply.returned = number_at(number, 0);
     return reply;
 }
 
@@ -148,20 +148,29 @@ static void print_crash(const std::vector<std::string>& command, const std::vect
     std::cerr << "but on none of the batch's calls alone\n";
 }
 
-using Tally = std::map<std::pair<Kind, u32>, u64>;  // calls by kind and number
+// How often each entry answered with each number, and each set of a room that was not refused.
+using Tally = std::map<std::pair<std::string, u32>, u64>;
+
+static void count(Tally& tally, Kind kind, const Reply& reply) {
+    ++tally[{entry(kind).name, reply.returned % 65'536}];
+    if (kind != ROOM || reply.returned != 0) return;
+    const Bytes& numbers = reply.slices[3];
+    for (std::size_t at = 0; at < numbers.size(); at += 4)
+        ++tally[{"a room's set", number_at(numbers, at)}];
+}
 
 static void print(const Tally& tally) {
-    for (const auto& [key, calls] : tally) {
-        std::cout << entry(key.first).name;
+    for (const auto& [key, times] : tally) {
+        std::cout << key.first;
         if (key.second == 0)
             std::cout << ", accepted: ";
         else
             std::cout << ", number " << key.second << ": ";
-        std::cout << calls << "\n";
+        std::cout << times << "\n";
     }
 }
 
-int compare_door(u64 count, u64 seed, const std::vector<std::string>& command) {
+int compare_door(u64 calls, u64 seed, const std::vector<std::string>& command) {
     std::signal(SIGPIPE, SIG_IGN);  // a runner that is gone shows as a failed write
     constexpr u64 most = 256;
     most_looks = 4'000'000;
@@ -169,11 +178,11 @@ int compare_door(u64 count, u64 seed, const std::vector<std::string>& command) {
     Tally tally;
     Runner runner(command);
     u64 done = 0, again_calls = 0;
-    std::vector<Case> batch = random_batch(dice, std::min(most, count));
+    std::vector<Case> batch = random_batch(dice, std::min(most, calls));
     while (!batch.empty()) {
         const bool sent = runner.send(as_bytes(batch));
         // The next batch is made while the runner works on this one.
-        std::vector<Case> next = random_batch(dice, std::min(most, count - done - batch.size()));
+        std::vector<Case> next = random_batch(dice, std::min(most, calls - done - batch.size()));
         for (const auto& [call, reply, again] : batch) {
             const std::optional<Reply> other = sent ? receive_reply(runner, call) : std::nullopt;
             if (!other) {
@@ -182,13 +191,13 @@ int compare_door(u64 count, u64 seed, const std::vector<std::string>& command) {
             }
             if (*other != reply) {
                 std::cerr << "call " << done << " of seed " << seed << " differs"
-                          << (again ? "; it is the call before it, in another order\n" : "\n");
+                          << (again ? "; it is the call before it once more\n" : "\n");
                 print(call);
                 print("this program", call.kind, reply);
                 print("the archive", call.kind, *other);
                 return 1;
             }
-            ++tally[{call.kind, reply.returned % 65'536}];
+            count(tally, call.kind, reply);
             again_calls += again;
             ++done;
         }
@@ -196,6 +205,6 @@ int compare_door(u64 count, u64 seed, const std::vector<std::string>& command) {
     }
     print(tally);
     std::cout << done << " door calls of seed " << seed << ", " << again_calls
-              << " of them the call before in another order: all equal\n";
+              << " of them the call before once more: all equal\n";
     return 0;
 }

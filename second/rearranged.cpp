@@ -5,7 +5,7 @@
 #include <stdexcept>
 
 void must_agree(bool agree) {
-    if (!agree) throw std::logic_error("the rules answer a rearranged list otherwise");
+    if (!agree) throw std::logic_error("the rules answer otherwise than the first answer says");
 }
 
 Refused rearranged(const Refused& first, const Order& order, const Refused& again) {

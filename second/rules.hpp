@@ -107,3 +107,4 @@ u32 door_assign(const Bytes& records, Bytes& deadlines);
 u32 door_check(const Bytes& records, const Bytes& deadlines);
 Bytes encode(const Set& set);
 Bytes encode(const List& list);
+u32 number_at(const Bytes& bytes, std::size_t at);

@@ -1,9 +1,9 @@
 // The thin side of the door comparison: an x86-64 program around libcharoktan.a. It reads batches
 // of calls from standard input, makes them, and writes what was returned and what the slices hold.
 //
-// Each slice lies in a room of its own between two guard rooms that may not be touched, pressed to
-// the end of its room or to the start of it as the call asks: a read or write by the archive
-// outside the slice ends this program. door.cpp says how the pipe is written.
+// Each slice lies in a space of its own between two guards that may not be touched, pressed to the
+// end of its space or to the start of it as the call asks: a read or write by the archive outside
+// the slice ends this program. door.cpp says how the pipe is written.
 #include <cstddef>
 #include <cstdint>
 #include <cstdio>
@@ -21,6 +21,11 @@ std::uint32_t charoktan_check(const std::uint8_t* records, std::size_t records_l
 std::uint32_t charoktan_critical(const std::uint8_t* executions, std::size_t executions_len,
                                  const std::uint8_t* arcs, std::size_t arcs_len,
                                  std::uint8_t* results, std::size_t results_len);
+std::uint32_t charoktan_room(const std::uint8_t* records, std::size_t records_len,
+                             const std::uint8_t* lengths, std::size_t lengths_len,
+                             std::uint8_t* deadlines, std::size_t deadlines_len,
+                             std::uint8_t* numbers, std::size_t numbers_len,
+                             std::uint8_t* places, std::size_t places_len);
 }
 
 [[noreturn]] static void fail(const char* why) {
@@ -28,22 +33,23 @@ std::uint32_t charoktan_critical(const std::uint8_t* executions, std::size_t exe
     std::exit(3);
 }
 
-// 64 KiB is a multiple of every page size in use, also of an emulator's host.
-static constexpr std::size_t ROOM = 65'536;
+// 128 KiB is a multiple of every page size in use, also of an emulator's host, and more than 4,096
+// records take.
+static constexpr std::size_t SPACE = 131'072;
 
-class GuardedRoom {
+class GuardedSpace {
 public:
-    GuardedRoom() {
-        void* all = mmap(nullptr, 4 * ROOM, PROT_NONE, MAP_PRIVATE | MAP_ANONYMOUS, -1, 0);
+    GuardedSpace() {
+        void* all = mmap(nullptr, 4 * SPACE, PROT_NONE, MAP_PRIVATE | MAP_ANONYMOUS, -1, 0);
         if (all == MAP_FAILED) fail("no memory");
         const auto address = reinterpret_cast<std::uintptr_t>(all);
-        start_ = static_cast<std::uint8_t*>(all) + (2 * ROOM - address % ROOM);
-        if (mprotect(start_, ROOM, PROT_READ | PROT_WRITE) != 0) fail("no guards");
+        start_ = static_cast<std::uint8_t*>(all) + (2 * SPACE - address % SPACE);
+        if (mprotect(start_, SPACE, PROT_READ | PROT_WRITE) != 0) fail("no guards");
     }
 
     std::uint8_t* place(const std::uint8_t* bytes, std::size_t length, bool at_end) {
-        if (length > ROOM) fail("a slice is too long");
-        std::uint8_t* slice = at_end ? start_ + ROOM - length : start_;
+        if (length > SPACE) fail("a slice is too long");
+        std::uint8_t* slice = at_end ? start_ + SPACE - length : start_;
         if (length > 0) std::memcpy(slice, bytes, length);
         return slice;
     }
@@ -67,12 +73,17 @@ struct Slice {
     std::uint8_t* start;
     std::size_t length;
 };
+static constexpr std::size_t SLICES = 5;
 
-static std::uint32_t call(std::uint32_t kind, const Slice& a, const Slice& b, const Slice& c) {
+static std::uint32_t call(std::uint32_t kind, const Slice (&slices)[SLICES]) {
+    const auto& [a, b, c, d, e] = slices;
     switch (kind) {
     case 1: return charoktan_assign(a.start, a.length, b.start, b.length);
     case 2: return charoktan_check(a.start, a.length, b.start, b.length);
     case 3: return charoktan_critical(a.start, a.length, b.start, b.length, c.start, c.length);
+    case 4:
+        return charoktan_room(a.start, a.length, b.start, b.length, c.start, c.length, d.start,
+                              d.length, e.start, e.length);
     default: fail("there is no such call");
     }
 }
@@ -80,20 +91,21 @@ static std::uint32_t call(std::uint32_t kind, const Slice& a, const Slice& b, co
 // Makes the call at `at`, appends its reply and returns where the next call starts.
 static std::size_t make_call(const std::vector<std::uint8_t>& batch, std::size_t at,
                              std::vector<std::uint8_t>& replies) {
-    static GuardedRoom rooms[3];
-    if (batch.size() - at < 20) fail("a batch is cut off");
+    static GuardedSpace spaces[SLICES];
+    constexpr std::size_t head = 8 + 4 * SLICES;
+    if (batch.size() - at < head) fail("a batch is cut off");
     const std::uint32_t kind = number_at(&batch[at]), placement = number_at(&batch[at + 4]);
-    Slice slices[3];
-    std::size_t next = at + 20;
-    for (std::size_t k = 0; k < 3; ++k) {
+    Slice slices[SLICES];
+    std::size_t next = at + head;
+    for (std::size_t k = 0; k < SLICES; ++k) {
         const std::size_t length = number_at(&batch[at + 8 + 4 * k]);
         if (batch.size() - next < length) fail("a batch is cut off");
-        slices[k] = {rooms[k].place(batch.data() + next, length, placement >> k & 1), length};
+        slices[k] = {spaces[k].place(batch.data() + next, length, placement >> k & 1), length};
         // An empty slice may be passed as null.
-        if (placement & 8 && length == 0) slices[k].start = nullptr;
+        if (placement >> SLICES & 1 && length == 0) slices[k].start = nullptr;
         next += length;
     }
-    const std::uint32_t returned = call(kind, slices[0], slices[1], slices[2]);
+    const std::uint32_t returned = call(kind, slices);
     append(replies, &returned, sizeof returned);
     for (const auto& [start, length] : slices) append(replies, start, length);
     return next;

@@ -290,6 +290,7 @@ int check_self() {
     const Set many = tied_set(dice, MOST_SUBJOBS + 1);
     rearranged_faults({many, random_order(dice, MOST_SUBJOBS + 1)}, 0);
     check_graphs();
+    check_rooms();
     if (failures == 0)
         expect(ties.bounds > 2000 && ties.within_a_job > 1000 && ties.slacks > 2000,
                "many ties");

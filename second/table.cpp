@@ -1,5 +1,6 @@
 // The table program and the engine's door, on top of the rules.
 #include "graph.hpp"
+#include "room.hpp"
 
 #include <initializer_list>
 
@@ -114,7 +115,7 @@ std::string table(const std::string& text) {
 
 // ---------------------------------------------------------------- the engine's door
 
-static u32 number_at(const Bytes& bytes, std::size_t at) {
+u32 number_at(const Bytes& bytes, std::size_t at) {
     return u32{bytes[at]} | u32{bytes[at + 1]} << 8 | u32{bytes[at + 2]} << 16 |
            u32{bytes[at + 3]} << 24;
 }
@@ -159,6 +160,14 @@ Graph decode_graph(const Bytes& executions, const Bytes& arcs) {
     return graph;
 }
 
+Room decode_room(const Bytes& records, const Bytes& lengths) {
+    return {decode_set(records), decode_list(lengths)};
+}
+
+Outcome decode_outcome(const Bytes& deadlines, const Bytes& numbers, const Bytes& places) {
+    return {decode_list(deadlines), decode_list(numbers), decode_list(places)};
+}
+
 Bytes encode(const Set& set) {
     return encode(std::vector{&set.job, &set.subtask, &set.release, &set.execution, &set.deadline,
                               &set.critical});
@@ -197,5 +206,18 @@ u32 door_critical(const Bytes& executions, const Bytes& arcs, Bytes& results) {
     List critical = decode_list(results);
     const Refused refused = critical_times(decode_graph(executions, arcs), critical);
     results = encode(critical);
+    return returned(refused);
+}
+
+u32 door_room(const Bytes& records, const Bytes& lengths, Bytes& deadlines, Bytes& numbers,
+              Bytes& places) {
+    if (!lengths_fit(records, deadlines) || lengths.size() % 4 != 0 ||
+        numbers.size() != lengths.size() || places.size() != lengths.size())
+        return 1;
+    Outcome outcome = decode_outcome(deadlines, numbers, places);
+    const Refused refused = assign_room(decode_room(records, lengths), outcome);
+    deadlines = encode(outcome.deadlines);
+    numbers = encode(outcome.numbers);
+    places = encode(outcome.places);
     return returned(refused);
 }

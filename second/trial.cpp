@@ -242,6 +242,43 @@ void Trial::ask_critical_again(const Graph& graph, const List& before, const Gra
     ask_critical(told, before);
 }
 
+// ---------------------------------------------------------------- rooms
+
+void Trial::put_room(const Room& room, const Outcome& before) {
+    put(in, 6);
+    const Set& sets = room.sets;
+    for (const List* list :
+         {&sets.job, &sets.subtask, &sets.release, &sets.execution, &sets.deadline, &sets.critical})
+        put(in, *list, 4200);
+    put(in, room.lengths, 48);
+    put(in, before.deadlines, 4200);
+    put(in, before.numbers, 48);
+    put(in, before.places, 48);
+    end_line(in);
+    ++count[6];
+}
+
+void Trial::say_room(const Refused& answer, const Outcome& after) {
+    say(out, answer, "assigned");
+    for (const List* list : {&after.deadlines, &after.numbers, &after.places}) {
+        say_list(out, *list);
+        out += '\n';
+    }
+}
+
+void Trial::ask_room(const Room& room, const Outcome& before) {
+    const RoomCall call = answered(room, before);
+    put_room(room, before);
+    say_room(call.refused, call.after);
+}
+
+void Trial::ask_room_again(const RoomCall& made) {
+    const RoomCall again = answered(made.room, made.before);
+    must_agree(again.refused == made.refused && again.after == made.after);
+    put_room(made.room, made.before);
+    say_room(made.refused, made.after);
+}
+
 // ---------------------------------------------------------------- the end
 
 void Trial::ask_end() {

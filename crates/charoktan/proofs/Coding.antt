@@ -4,8 +4,10 @@ use mathlib.Core.List.{List, [], _∷_, _++_, append-nil}
 use mathlib.Core.Path.{_≡_, refl, sym, ap, _∙_}
 use native.Mathlib.Numerals.{add-one}
 use native.Mathlib.Omega.{arith}
-use lib.ListN.{length, getD, set, take, drop, length-append, length-take, drop-of-length-le}
-use lib.Seq.{take-suc-set, take-suc, take-at, take-all, drop-append-add, drop-drop}
+use lib.Dec.{ltb}
+use lib.ListN.{length, getD, set, take, drop, length-append, length-take, length-drop, drop-of-length-le, List·getD-append}
+use lib.Seq.{take-suc-set, take-suc, take-at, getD-at, take-all, length-take-le, drop-append-add, drop-drop}
+use Rattle.lists.proofs.Cases.{test, tests}
 use Rattle.subjobs.specs.Layout.{listAt}
 use Rattle.subjobs.specs.Sets.{subjobs}
 use Rattle.subjobs.proofs.LaidOut.{laid-here}
@@ -54,6 +56,19 @@ pub length-column : (bs : List ℕ) (w k n : ℕ) → length (column bs w k n) �
 unfolding column
 length-column bs w k zero = refl
 length-column bs w k (suc n) = simp length-append (omega (arith, length-column bs w k n))
+
+-- The k-th of them.
+pub column-at : (bs : List ℕ) (w j n k : ℕ) → k < n → getD (column bs w j n) k 0 ≡ word bs (w * k + j)
+unfolding column
+column-at bs w j zero k h = absurd (omega arith)
+column-at bs w j (suc n) k h =
+    test (ltb k n)
+    (λ e.
+    List·getD-append (column bs w j n) (word bs (w * n + j) ∷ []) 0 k (omega (tests, length-column bs w j n))
+    ∙ column-at bs w j n k (omega tests))
+    (λ e.
+    let q : k ≡ n = omega tests in
+    rw q (getD-at (column bs w j n) (word bs (w * n + j)) [] 0 n (length-column bs w j n)))
 
 pub length-encoded : (vs : List ℕ) → length (encoded vs) ≡ 4 * length vs
 unfolding encoded
@@ -127,3 +142,34 @@ words-encoded vs n l b =
 -- Nothing of what was there is left.
 pub all-written : (new old : List ℕ) (n : ℕ) → length old ≡ n → new ++ drop n old ≡ new
 all-written new old n e = rw (drop-of-length-le old {i = n} (omega arith), append-nil)
+
+-- Numbers written one after another over what was there: k of them stand there.
+pub record Put (vs old out : List ℕ) (k : ℕ) : Type 0 where
+  pub most : k ≤ length vs
+  pub long : length old ≡ 4 * length vs
+  pub done : out ≡ encoded (take k vs) ++ drop (4 * k) old
+
+pub put-none : (vs old : List ℕ) → length old ≡ 4 * length vs → Put vs old old 0
+unfolding encoded
+put-none vs old l = record { most = omega arith; long = l; done = refl }
+
+module _ {vs old out : List ℕ} {k : ℕ} (P : Put vs old out k) where
+  pub put-length : length out ≡ length old
+  put-length =
+      ap length (P .done)
+      ∙ length-append (encoded (take k vs)) (drop (4 * k) old)
+      ∙ omega (arith, length-encoded (take k vs), length-take-le k vs (P .most), length-drop (4 * k) old, P .most, P .long)
+
+  pub put-next :
+      {v : ℕ} {out′ : List ℕ}
+      → k < length vs
+      → v ≡ getD vs k 0
+      → out′ ≡ take (4 * k) out ++ bytes v ++ drop (4 * k + 4) out
+      → Put vs old out′ (k + 1)
+  put-next h q e =
+      record { most = omega arith; long = P .long; done = e ∙ rw q (encoded-more vs old out k h (P .done)) }
+
+  pub put-whole : length vs ≤ k → out ≡ encoded vs
+  put-whole h =
+      let n : k ≡ length vs = omega (arith, P .most) in
+      P .done ∙ rw (n, take-all (length vs) vs (omega arith)) (all-written (encoded vs) old (4 * length vs) (P .long))

@@ -1,13 +1,14 @@
 -- The door's ways out: lengths that do not fit, too many records, and what the assignment or the checker answers.
-use Prim.Native.Nat.{ℕ, _*_, _%_, _≤_, _<_}
+use Prim.Native.Nat.{ℕ, _*_, _/_, _%_, _≤_, _<_}
 use mathlib.Core.Bool.{Bool, true, false}
 use mathlib.Core.List.{List, _++_}
-use mathlib.Core.Path.{_≡_, sym, ap, _∙_}
+use mathlib.Core.Path.{_≡_, refl, sym, ap, _∙_}
+use native.Mathlib.Omega.{arith}
 use borrow.Author.Tests.{eq-eqb, eqb-true}
 use lib.Dec.{eqb}
 use lib.ListN.{length, take, drop, replicate, length-replicate}
 use lib.Seq.{take-at}
-use Rattle.lists.proofs.Cases.{both}
+use Rattle.lists.proofs.Cases.{test, both}
 use Rattle.lists.proofs.Mapped.{take-replicate}
 use Rattle.subjobs.specs.declared.Judgement.the-variants as judged
 use Rattle.subjobs.specs.declared.Reason.the-variants.{TooMany}
@@ -16,15 +17,17 @@ use Rattle.subjobs.specs.Judging.{judgement}
 use Rattle.subjobs.specs.Faults as faults
 use Rattle.subjobs.specs.Faults.{OneLength}
 use Rattle.subjobs.proofs.Fit.{judged-exactly}
+use Rattle.subjobs.proofs.Reported.{number-range}
 use Rattle.olda.specs.declared.Answer.{Answer}
-use Rattle.olda.specs.declared.Answer.the-variants.{Refused}
+use Rattle.olda.specs.declared.Answer.the-variants.{Placed, Nothing, Refused}
 use Rattle.olda.specs.Answers.{answer, results}
+use Rattle.olda.proofs.Results.{results-length, refused-within}
 use Rattle.checker.specs.declared.Answer as checker
 use Rattle.checker.specs.declared.Answer.the-variants as check
 use Rattle.checker.specs.Answers as checkers
 use Rattle.charoktan.specs.Records.{column, words, count, records, encoded, fitting}
 use Rattle.charoktan.specs.Answers.{checking, checked, placing, assigned, ifPlaced, assignedBytes, AssignsBytes}
-use Rattle.charoktan.proofs.Coding.{length-column}
+use Rattle.charoktan.proofs.Coding.{length-column, length-encoded}
 
 -- The lengths that fit: 4 bytes of results for each record.
 pub fit-length : (bs : List ℕ) (m : ℕ) → fitting bs m ≡ true → m ≡ 4 * count bs
@@ -70,6 +73,29 @@ module _ (bs out : List ℕ) where
   pub assigns :
       {r x : ℕ} {l y : List ℕ} → r ≡ x → l ≡ y → (assigned bs (length out) ≡ x) × (assignedBytes bs out ≡ y) → AssignsBytes bs out r l
   assigns p q d = (p ∙ sym (d .0), q ∙ sym (d .1))
+
+-- Whatever comes of a call, the results keep their length.
+pub assigned-length : (bs out : List ℕ) → length (assignedBytes bs out) ≡ length out
+assigned-length bs out =
+    test (fitting bs (length out)) (λ e. by-answer e (answer (records bs) (count bs)) refl) (λ e. ap length (unfit bs out e .1))
+  where
+    by-answer : fitting bs (length out) ≡ true → (a : Answer) → answer (records bs) (count bs) ≡ a → length (assignedBytes bs out) ≡ length out
+    by-answer e Nothing q = ap length (answered bs out e Nothing q .1)
+    by-answer e (Refused r) q = ap length (answered bs out e (Refused r) q .1)
+    by-answer e (Placed r) q =
+        let ds = results (records bs) (replicate (count bs) 0) in
+        ap length (answered bs out e (Placed r) q .1)
+        ∙ omega (arith, length-encoded ds, results-length (records bs) (replicate (count bs) 0), length-replicate {A = ℕ} (count bs) 0, fit-length bs (length out) e)
+
+-- The place in the number returned is one of 128.
+pub place-small : (bs : List ℕ) (m : ℕ) → assigned bs m / 65_536 < 128
+unfolding assigned
+place-small bs m = test (fitting bs m) (λ e. rw e (by-answer (answer (records bs) (count bs)) refl)) (λ e. rw e (omega arith))
+  where
+    by-answer : (a : Answer) → answer (records bs) (count bs) ≡ a → placing a / 65_536 < 128
+    by-answer (Placed r) q = omega arith
+    by-answer Nothing q = omega arith
+    by-answer (Refused r) q = omega (arith, refused-within (records bs) (count bs) r q, number-range r .1)
 
 -- What a call that keeps the length left in the front of a room of zeros is what it gives for zeros.
 pub front :

@@ -1,3 +1,4 @@
 pub mod Coding
 pub mod Door
 pub mod GraphDoor
+pub mod RoomDoor

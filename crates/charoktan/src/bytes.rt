@@ -13,7 +13,7 @@ fn wide(x: u8) -> u32
 }
 
 // The number at a byte.
-fn word(bytes: &[u8], at: usize) -> u32
+pub(crate) fn word(bytes: &[u8], at: usize) -> u32
     requires { ⌜ at + 4 ≤ length (now bytes) ⌝ }
     ensures { λ r. ⌜ r ≡ word (now (bytes .entry)) at ⌝ }
 {
@@ -68,7 +68,7 @@ pub(crate) fn field(lists: &[u32], n: usize, k: usize) -> &[u32]
 }
 
 // The four bytes of a number, at a byte.
-fn put(out: &mut [u8], at: usize, v: u32)
+pub(crate) fn put(out: &mut [u8], at: usize, v: u32)
     requires { ⌜ at + 4 ≤ length (now out) ⌝ }
     ensures { λ _. ⌜ now (out .exit) ≡ take at (now (out .entry)) ++ bytes v ++ drop (at + 4) (now (out .entry)) ⌝ }
 {

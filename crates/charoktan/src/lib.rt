@@ -1,16 +1,18 @@
-// The engine's door: the assignment and the checker on the engine's own bytes, 24 for each sub-job, and critical times from
-// a graph, 4 for each sub-job and 12 for each arc.
+// The engine's door: the assignment and the checker on the engine's own bytes, 24 for each sub-job; critical times from a
+// graph, 4 for each sub-job and 12 for each arc; and all sets of a room, with 4 for each set's length.
 ghost use Prim.Native.Nat.{_<_};
 ghost use mathlib.Core.Path.{_≡_};
 ghost use Rattle.subjobs.specs.Reasons.{placeOf};
 ghost use Rattle.charoktan.specs.Records.{fitting, fittingGraph, Rooms, GraphWithin, GraphRooms};
 ghost use Rattle.charoktan.specs.Answers.{code, AssignsBytes, ChecksBytes, FindsBytes};
+ghost use Rattle.charoktan.specs.Rooms.{roomBytes, RoomsBytes};
 use checker::Answer as Checked;
 use olda::Answer;
 use subjobs::Judgement;
 use subjobs::Reason;
 
 mod bytes;
+mod rooms;
 
 // The number returned for a refusal.
 fn code(reason: Reason) -> u32
@@ -235,4 +237,35 @@ pub extern "C" fn charoktan_critical(executions: &[u8], arcs: &[u8], results: &m
         return critical_few(executions, arcs, results);
     }
     critical_many(executions, arcs, results)
+}
+
+// The sets of a room: 0, with each set's number and place written and the deadlines of those that are accepted; or a
+// refusal of the whole, with every byte left as it was.
+#[no_mangle]
+pub extern "C" fn charoktan_room(
+    records: &[u8],
+    lengths: &[u8],
+    deadlines: &mut [u8],
+    numbers: &mut [u8],
+    places: &mut [u8],
+) -> u32
+    ensures { λ r. ⌜
+        RoomsBytes (roomBytes (now (records .entry)) (now (lengths .entry)) (now (deadlines .entry))
+        (now (numbers .entry)) (now (places .entry)))
+        r (now (deadlines .exit)) (now (numbers .exit)) (now (places .exit)) ⌝ }
+{
+    if !rooms::fitting(
+        records,
+        lengths,
+        deadlines.len(),
+        numbers.len(),
+        places.len(),
+    ) {
+        return 1;
+    }
+    if !((lengths.len() / 4 <= 32) & (records.len() / 24 <= 4_096)) {
+        return 22;
+    }
+    rooms::assign_each(records, lengths, deadlines, numbers, places);
+    0
 }

@@ -1,13 +1,15 @@
 -- Sums, least and greatest over a group: of a subset, of two functions that agree, with one member taken out.
-use Prim.Native.Nat.{ℕ, zero, suc, _+_, _≤_}
+use Prim.Native.Nat.{ℕ, zero, suc, _+_, _≤_, _<_}
 use mathlib.Core.Bool.{Bool, true, false, cond, not}
 use mathlib.Core.List.{List, [], _∷_, List·Memᴰ, List·Memᴰ·head, List·Memᴰ·tail, Memᴰ·cast}
 use mathlib.Core.Logic.{_≢_, _⊎_}
 use mathlib.Core.Path.{_≡_, refl, sym, ap, _∙_}
+use native.Mathlib.Numerals.{add-one}
 use native.Mathlib.Omega.{arith}
 use lib.Dec.{eqb, ltb}
-use lib.ListN.{length}
-use Rattle.lists.specs.Places.{filter, without, weight, least, greatest, Every, Nodup, from}
+use lib.ListN.{length, getD, drop}
+use lib.Seq.{drop-cons}
+use Rattle.lists.specs.Places.{filter, without, weight, total, least, greatest, Every, Nodup, from}
 use Rattle.lists.proofs.Cases.{split, test, clash, tests}
 use Rattle.lists.proofs.Members.{in-cons, in-nil, cons-nil, filter-cases, filter-nil, every-in}
 
@@ -18,6 +20,10 @@ weight-nil f = refl
 pub weight-cons : (f : ℕ → ℕ) (x : ℕ) (xs : List ℕ) → weight f (x ∷ xs) ≡ f x + weight f xs
 unfolding weight
 weight-cons f x xs = refl
+
+-- What is left of a sum, from one number on.
+pub total-left : (ns : List ℕ) (i : ℕ) → i < length ns → total (drop i ns) ≡ getD ns i 0 + total (drop (i + 1) ns)
+total-left ns i h = rw (add-one, drop-cons ns i 0 h) (weight-cons (λ n. n) (getD ns i 0) (drop (suc i) ns))
 
 -- A sum whose terms do not grow does not grow.
 pub weight-le : (f g : ℕ → ℕ) (xs : List ℕ) → ((i : ℕ) → List·Memᴰ i xs → f i ≤ g i) → weight f xs ≤ weight g xs

@@ -6,6 +6,7 @@
 --   filter U xs   == the subset of xs that U picks
 --   without b xs  == xs with b taken out
 --   weight f xs   == the sum of f over xs
+--   total ns      == the sum of numbers
 --   least f xs    == the smallest f in xs, 0 if xs is empty
 --   greatest f xs == the greatest f in xs, 0 if xs is empty
 --   Every P xs    == P holds of all of xs
@@ -39,6 +40,9 @@ without b xs = filter (λ i. not (eqb i b)) xs
 unfoldable pub weight : (ℕ → ℕ) → List ℕ → ℕ
 weight f [] = 0
 weight f (x ∷ xs) = f x + weight f xs
+
+abbrev pub total : List ℕ → ℕ
+total ns = weight (λ n. n) ns
 
 unfoldable pub least : (ℕ → ℕ) → List ℕ → ℕ
 least f [] = 0

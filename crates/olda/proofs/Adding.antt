@@ -2,17 +2,16 @@
 use Prim.Native.Nat.{ℕ, zero, suc, _+_, _-_, _*_, _<_, _≤_}
 use mathlib.Core.List.{List, [], _∷_, map}
 use mathlib.Core.Path.{_≡_, refl, sym, ap, _∙_}
-use native.Mathlib.Numerals.{add-one}
 use native.Mathlib.Omega.{arith}
 use lib.ListN.{length, take, drop, set, length-drop, length-map, drop-of-length-le}
 use lib.Seq.{drop-cons, drop-drop, drop-set-lt, take-all, take-set-lt}
 use mir.Syntax.{w32}
 use mir.Val.{Fits}
-use Rattle.lists.specs.Places.{weight, Every}
+use Rattle.lists.specs.Places.{weight, total, Every}
 use Rattle.lists.proofs.Mapped.{at-map, part-within}
 use Rattle.lists.proofs.Members.{every-at, every-drop, every-more}
-use Rattle.lists.proofs.Sums.{weight-nil, weight-cons}
-use Rattle.olda.specs.Parts.{at, total, completes, completions, Ordering, Ranged, Tail, Tails}
+use Rattle.lists.proofs.Sums.{weight-nil, weight-cons, total-left}
+use Rattle.olda.specs.Parts.{at, completes, completions, Ordering, Ranged, Tail, Tails}
 use Rattle.lists.proofs.Copied.{Copied, copied-none, copied-next, copied-all}
 
 weight-most : (rs cs xs : List ℕ) → Every (Ranged rs cs) xs → weight (at cs) xs ≤ 1_000_000 * length xs
@@ -60,14 +59,11 @@ added-none h = record { small = h; most = omega arith; sum = refl }
 
 module _ {r m i : ℕ} {ns : List ℕ} (a : Added r ns m i) where
   module _ (h : i < length ns) where
-    next : total (drop i ns) ≡ at ns i + total (drop (i + 1) ns)
-    next = rw (add-one, drop-cons ns i 0 h) (weight-cons (λ c. c) (at ns i) (drop (suc i) ns))
-
     pub added-fits : Fits w32 (m + at ns i)
-    added-fits = record { fits = omega (arith, next, a .sum, a .small) }
+    added-fits = record { fits = omega (arith, total-left ns i h, a .sum, a .small) }
 
     pub added-more : Added r ns (m + at ns i) (i + 1)
-    added-more = record { small = a .small; most = omega arith; sum = omega (arith, next, a .sum) }
+    added-more = record { small = a .small; most = omega arith; sum = omega (arith, total-left ns i h, a .sum) }
 
   pub added-all : length ns ≤ i → m ≡ r + total ns
   added-all h = omega (arith, a .sum, ap total (drop-of-length-le ns h), weight-nil (λ c. c))

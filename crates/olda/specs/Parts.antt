@@ -4,7 +4,6 @@
 --   at xs i             == what stands at place i of a list
 --   rest k xs           == xs without what stands at k
 --   lessened k v ns     == ns with v taken off each of the first k
---   total ns            == the sum of numbers
 --   completes r c xs    == the completion of places in release order: the release of the first plus all executions
 --   completions r c xs  == the completion of each tail of xs, that of all of xs first
 --   raise               == what upper bounds are raised by, so that none is negative
@@ -46,9 +45,6 @@ unfoldable pub lessened : ℕ → ℕ → List ℕ → List ℕ
 lessened zero v ns = ns
 lessened (suc k) v [] = []
 lessened (suc k) v (n ∷ ns) = (n - v) ∷ lessened k v ns
-
-abbrev pub total : List ℕ → ℕ
-total ns = weight (λ c. c) ns
 
 abbrev pub completes : (r c : ℕ → ℕ) → List ℕ → ℕ
 completes r c xs = r (at xs 0) + weight c xs

@@ -4,7 +4,8 @@ ghost use Prim.Native.Nat.{_+_, _<_};
 ghost use mathlib.Core.Path.{_≡_};
 ghost use mathlib.Core.List.{map};
 ghost use lib.ListN.{length, take};
-ghost use Rattle.olda.specs.Parts.{at, total, completions, Ordering, Tails, Greatest};
+ghost use Rattle.lists.specs.Places.{total};
+ghost use Rattle.olda.specs.Parts.{at, completions, Ordering, Tails, Greatest};
 use crate::choosing::index;
 
 // Writes the executions in release order.

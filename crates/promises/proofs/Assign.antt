@@ -166,6 +166,13 @@ module _ (s : Subjobs) (out : List ℕ) where
 pub assign-answers : AssignAnswers
 assign-answers s out = (says-so s out, λ v l h. only s out h)
 
+-- A refusal leaves the list.
+pub assign-keeps : (s : Subjobs) (out : List ℕ) {v : List ℤ} {l : List ℕ} → AssignSays s out v l → (accepted v → ⊥) → l ≡ out
+assign-keeps s out (says.faulty f) n = refl
+assign-keeps s out (says.late f h) n = refl
+assign-keeps s out (says.nothing f z) n = absurd (n refl)
+assign-keeps s out (says.placed f l h r) n = absurd (n refl)
+
 pub rules-allow-one : RulesAllowOne
 rules-allow-one s o f =
     (λ d d′ a a′. accepted-one s f a a′, λ p m p′ m′ h h′. refused-one s f h h′, λ d p m a h. accepted-refused s f a h)

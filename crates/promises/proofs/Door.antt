@@ -40,19 +40,19 @@ use Rattle.promises.proofs.Check.{check-answers}
 use Rattle.promises.proofs.Demand3.{checker-agrees}
 
 -- The lengths fit exactly if the records are whole and the deadlines have 4 bytes for each.
-whole : (bs ds : List ℕ) → fitting bs (length ds) ≡ true → Whole bs ds
+pub whole : (bs ds : List ℕ) → fitting bs (length ds) ≡ true → Whole bs ds
 whole bs ds e =
     let w = both {a = eqb (length bs % 24) 0} {b = eqb (length ds) (4 * count bs)} e in
     (eqb-true _ _ (w .0), eqb-true _ _ (w .1))
 
-fits : (bs ds : List ℕ) → Whole bs ds → fitting bs (length ds) ≡ true
+pub fits : (bs ds : List ℕ) → Whole bs ds → fitting bs (length ds) ≡ true
 fits bs ds w = rw (eq-eqb (length bs % 24) 0 (w .0), eq-eqb (length ds) (4 * count bs) (w .1))
 
 room-length : (bs : List ℕ) → length (room bs) ≡ count bs
 room-length bs = length-replicate {A = ℕ} (count bs) 0
 
 -- The values of an answer begin with 0, or are a refusal's, which begin with its number and place.
-assign-refuses :
+pub assign-refuses :
     {n p : ℕ} {vs : List ℤ} (a : Answer)
     → pos n ∷ pos p ∷ vs ≡ olda.values a
     → n ≢ 0
@@ -241,21 +241,34 @@ told-apart bs ds l n p vs w z = (
       (reported.refused-within (records bs) (words ds (count bs)) (q .0) (q .1)),
 )
 
+-- Deadlines of records are small, so they are read back from their bytes.
+pub read-back : (bs ds : List ℕ) → Assigned (records bs) ds → (length ds ≡ count bs) × (words (encoded ds) (count bs) ≡ ds)
+read-back bs ds a =
+    let s = records bs in
+    let r = assigned-rules s ds a in
+    let l : length ds ≡ count bs = r .1 ∙ size-records bs in
+    let m = deadlines-meet-six-and-seven s ds a in (
+      l,
+      words-encoded ds (count bs) l
+          (λ i h.
+          let k : i < size s = omega (arith, size-records bs) in
+          omega (arith, m .0 i (in-places (size s) i k) .1, r .0 .ranges i k .deadline)),
+    )
+
+-- What the door wrote, read back, are the deadlines of an accepted set.
+pub door-hands-on : (bs out : List ℕ) → assigned bs (length out) ≡ 0 → Assigned (records bs) (words (assignedBytes bs out) (count bs))
+door-hands-on bs out z =
+    let w = door-placed bs out z in
+    let ds = olda.results (records bs) (room bs) in
+    rw (w .2, read-back bs ds (w .1) .1) (w .1)
+
 pub door-agrees : DoorAgrees
 door-agrees bs out z =
     let w = door-placed bs out z in
     let s = records bs in
     let ds = olda.results s (room bs) in
-    let r = assigned-rules s ds (w .1) in
-    let l : length ds ≡ count bs = r .1 ∙ size-records bs in
-    let m = deadlines-meet-six-and-seven s ds (w .1) in
-    let back : words (encoded ds) (count bs) ≡ ds =
-    words-encoded ds (count bs) l
-    (λ i h.
-    let k : i < size s = omega (arith, size-records bs) in
-    omega (arith, m .0 i (in-places (size s) i k) .1, r .0 .ranges i k .deadline))
-    in
-    let same : length (encoded ds) ≡ length out = omega (arith, length-encoded ds, l, w .0 .1) in
+    let back = read-back bs ds (w .1) in
+    let same : length (encoded ds) ≡ length out = omega (arith, length-encoded ds, back .0, w .0 .1) in
     rw (w .2)
     (answered-check bs (encoded ds) (fits bs (encoded ds) (w .0 .0, same ∙ w .0 .1)) check.Accepted
-    (check-taken (checker.answer s (words (encoded ds) (count bs))) (rw back (checker-agrees s ds (w .1)))))
+    (check-taken (checker.answer s (words (encoded ds) (count bs))) (rw (back .1) (checker-agrees s ds (w .1)))))

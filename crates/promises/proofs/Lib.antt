@@ -10,7 +10,10 @@ pub mod Text
 pub mod Cases
 pub mod Door
 pub mod CriticalDoor
+pub mod Rooms
+pub mod RoomDoor
 pub mod Outcomes
+pub mod RoomLists
 pub mod Example
 pub mod Reordering
 pub mod ReorderingRuns

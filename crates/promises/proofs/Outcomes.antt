@@ -17,30 +17,21 @@ use Rattle.ticks.proofs.Ticks.{run-length}
 use Rattle.olda.specs.Answers as olda
 use Rattle.edf.specs.declared.Totals.{Totals}
 use Rattle.edf.specs.Answers as edf
-use Rattle.charoktan.specs.Records.{records}
 use Rattle.charoktan.specs.Answers as door
-use Rattle.charoktan.proofs.Coding.{length-encoded}
-use Rattle.charoktan.proofs.Door.{size-records}
+use Rattle.charoktan.proofs.Door.{assigned-length}
 use Rattle.promises.specs.Words.{accepted}
-use Rattle.promises.specs.Assign as assign
-use Rattle.promises.specs.Assign.{resultsFit, AssignSays}
+use Rattle.promises.specs.Assign.{resultsFit}
 use Rattle.promises.specs.Simulate as simulate
 use Rattle.promises.specs.Simulate.{SimulateSays}
-use Rattle.promises.specs.Door.{room}
-use Rattle.promises.specs.Outcomes.{RefusedKeeps, WritesAll, OneAssign, OneSimulate, OneRun, OneCheck, OneTable, OneCritical, OneDoorAssign, OneDoorCheck, OneDoorCritical, OneJudge, OneTell, OneRecord, OneAfterLine, OneWrite}
+use Rattle.promises.specs.Outcomes.{RefusedKeeps, WritesAll, OneAssign, OneSimulate, OneRun, OneCheck, OneTable, OneCritical, OneRoom, OneDoorAssign, OneDoorCheck, OneDoorCritical, OneDoorRoom, OneJudge, OneLengths, OneTell, OneRecord, OneAfterLine, OneWrite}
 use Rattle.promises.proofs.Faulted.{faulted, refused-number}
-use Rattle.promises.proofs.Assign.{assign-answers, assigned-rules, placed-answer}
+use Rattle.promises.proofs.Assign.{assign-answers, assign-keeps, assigned-rules, placed-answer}
 use Rattle.promises.proofs.Simulate.{simulate-answers}
 use Rattle.promises.proofs.Critical.{critical-keeps, critical-writes}
 use Rattle.promises.proofs.Door.{door-keeps, door-placed}
+use Rattle.promises.proofs.Rooms.{room-keeps, room-writes}
+use Rattle.promises.proofs.RoomDoor.{room-door-keeps}
 use Rattle.promises.proofs.CriticalDoor.{graph-keeps, graph-writes}
-
--- A refusal of the assignment leaves the list.
-assign-keeps : (s : Subjobs) (out : List ℕ) {v : List ℤ} {l : List ℕ} → AssignSays s out v l → (accepted v → ⊥) → l ≡ out
-assign-keeps s out (assign.faulty f) n = refl
-assign-keeps s out (assign.late f h) n = refl
-assign-keeps s out (assign.nothing f z) n = absurd (n refl)
-assign-keeps s out (assign.placed f l h r) n = absurd (n refl)
 
 -- A refusal of the simulator leaves list and totals.
 simulate-keeps :
@@ -52,7 +43,7 @@ simulate-keeps s ds asks fs t (simulate.faulty f) n = (refl, refl)
 simulate-keeps s ds asks fs t (simulate.above f h) n = (refl, refl)
 simulate-keeps s ds asks fs t (simulate.ran f b i) n = absurd (n refl)
 
-assign-writes :
+pub assign-writes :
     (s : Subjobs) (out old : List ℕ)
     → accepted (olda.values (olda.answer s (length out)))
     → length old ≡ length out
@@ -91,24 +82,21 @@ door-writes :
     → length old ≡ length out
     → (door.assignedBytes bs out ≡ door.assignedBytes bs old) × (length (door.assignedBytes bs out) ≡ length out)
 door-writes bs out old z l =
-    let a = door-placed bs out z in
-    let b = door-placed bs old (rw l z) in
-    let ds = olda.results (records bs) (room bs) in (
-      a .2 ∙ sym (b .2),
-      omega (arith, ap length (a .2), length-encoded ds, assigned-rules (records bs) ds (a .1) .1, size-records bs, a .0 .1),
-    )
+    (door-placed bs out z .2 ∙ sym (door-placed bs old (rw l z) .2), assigned-length bs out)
 
 pub refused-keeps : RefusedKeeps
 refused-keeps = (
   λ s out n. assign-keeps s out (assign-answers s out .0) n,
   λ s ds asks fs t n. simulate-keeps s ds asks fs t (simulate-answers s ds asks fs t .0) n,
   critical-keeps,
+  room-keeps,
   λ bs out z. door-keeps bs out z,
   λ es bs out z. graph-keeps es bs out z,
+  room-door-keeps,
 )
 
 pub writes-all : WritesAll
-writes-all = (assign-writes, simulate-writes, critical-writes, door-writes, graph-writes)
+writes-all = (assign-writes, simulate-writes, critical-writes, room-writes, door-writes, graph-writes)
 
 pub one-assign : OneAssign
 one-assign s out new other r q h k = (h .0 ∙ sym (k .0), h .1 ∙ sym (k .1))
@@ -128,6 +116,10 @@ one-table text out new other r q h k = (h .count ∙ sym (k .count), h .bytes �
 pub one-critical : OneCritical
 one-critical g out new other r q h k = (h .0 ∙ sym (k .0), h .1 ∙ sym (k .1))
 
+pub one-room : OneRoom
+one-room R out ks ps out′ ks′ ps′ r q h k =
+    (h .answer ∙ sym (k .answer), h .deadlines ∙ sym (k .deadlines), h .numbers ∙ sym (k .numbers), h .places ∙ sym (k .places))
+
 pub one-door-assign : OneDoorAssign
 one-door-assign bs out new other r q h k = (h .0 ∙ sym (k .0), h .1 ∙ sym (k .1))
 
@@ -137,8 +129,15 @@ one-door-check bs ds r q h k = h ∙ sym k
 pub one-door-critical : OneDoorCritical
 one-door-critical es bs out new other r q h k = (h .0 ∙ sym (k .0), h .1 ∙ sym (k .1))
 
+pub one-door-room : OneDoorRoom
+one-door-room B out ks ps out′ ks′ ps′ r q h k =
+    (h .number ∙ sym (k .number), h .deadlines ∙ sym (k .deadlines), h .numbers ∙ sym (k .numbers), h .places ∙ sym (k .places))
+
 pub one-judge : OneJudge
 one-judge s others r q h k = h ∙ sym k
+
+pub one-lengths : OneLengths
+one-lengths s others r q h k = h ∙ sym k
 
 pub one-tell : OneTell
 one-tell reason r q h k = h ∙ sym k

@@ -4,10 +4,12 @@ pub mod Assign
 pub mod Simulate
 pub mod Check
 pub mod Critical
+pub mod Rooms
 pub mod Text
 pub mod Example
 pub mod Door
 pub mod CriticalDoor
+pub mod RoomDoor
 pub mod Outcomes
 pub mod Cases
 pub mod Reordering

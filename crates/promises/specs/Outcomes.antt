@@ -3,9 +3,9 @@
 --
 --   RefusedKeeps  == after a refusal every lent list and the totals hold what they held
 --   WritesAll     == after acceptance every place of the result list is written, whatever it held
---   OneAssign, OneSimulate, OneRun, OneCheck, OneTable, OneCritical, OneDoorAssign, OneDoorCheck, OneDoorCritical == two
---                    outcomes that the contract of an entry allows are equal
---   OneJudge, OneTell, OneRecord, OneAfterLine, OneWrite == the same of the functions that the entries share
+--   OneAssign, OneSimulate, OneRun, OneCheck, OneTable, OneCritical, OneRoom, OneDoorAssign, OneDoorCheck, OneDoorCritical,
+--   OneDoorRoom   == two outcomes that the contract of an entry allows are equal
+--   OneJudge, OneLengths, OneTell, OneRecord, OneAfterLine, OneWrite == the same of the functions that the entries share
 use Prim.Native.Nat.{ℕ}
 use mathlib.Core.Bool.{Bool}
 use mathlib.Core.List.{List}
@@ -17,9 +17,11 @@ use Rattle.subjobs.specs.declared.Reason.{Reason}
 use Rattle.subjobs.specs.declared.Told.{Told}
 use Rattle.subjobs.specs.Sets.{Subjobs}
 use Rattle.subjobs.specs.Reasons.{tell}
-use Rattle.subjobs.specs.Judging.{values, Judges}
+use Rattle.subjobs.specs.Judging.{oneLength, values, Judges}
 use Rattle.olda.specs.declared.Answer as placing
 use Rattle.olda.specs.Answers as olda
+use Rattle.stretches.specs.Answers as rooms
+use Rattle.stretches.specs.Answers.{Room, room}
 use Rattle.edf.specs.declared.Answer as running
 use Rattle.edf.specs.declared.Simulated.{Simulated}
 use Rattle.edf.specs.declared.Totals.{Totals}
@@ -33,6 +35,8 @@ use Rattle.table.specs.Answers as table
 use Rattle.graph.specs.Graphs.{Graph}
 use Rattle.graph.specs.Answers as graph
 use Rattle.charoktan.specs.Answers as door
+use Rattle.charoktan.specs.Rooms as doorRooms
+use Rattle.charoktan.specs.Rooms.{RoomBytes}
 use Rattle.promises.specs.Words.{accepted}
 
 -- A refused call changes no list and no total: whenever the number is not 0.
@@ -43,10 +47,17 @@ RefusedKeeps =
     → (accepted (edf.values (edf.answer s ds asks (length fs) t)) → ⊥)
     → (edf.finishes s ds asks fs t ≡ fs) × (edf.totals s ds asks (length fs) t ≡ t))
     × ((g : Graph) (out : List ℕ) → (accepted (values (graph.answer g (length out))) → ⊥) → graph.results g out ≡ out)
+    × ((R : Room)
+    → (accepted (values (rooms.judgement R)) → ⊥)
+    → (rooms.deadlinesAfter R ≡ R .deadlines) × (rooms.numbersAfter R ≡ R .numbers) × (rooms.placesAfter R ≡ R .places))
     × ((bs out : List ℕ) → door.assigned bs (length out) ≢ 0 → door.assignedBytes bs out ≡ out)
     × ((es bs out : List ℕ) → door.found es bs (length out) ≢ 0 → door.foundBytes es bs out ≡ out)
+    × ((B : RoomBytes)
+    → doorRooms.roomed B ≢ 0
+    → (doorRooms.deadlineBytes B ≡ B .deadlines) × (doorRooms.numberBytes B ≡ B .numbers) × (doorRooms.placeBytes B ≡ B .places))
 
--- After acceptance the whole result list is written: it has its length, and nothing of what it held is left.
+-- After acceptance the whole result list is written: it has its length, and nothing of what it held is left. Of a room that
+-- is read, numbers and places are; its deadlines are those of its accepted sets, each in its own stretch (Rooms).
 abbrev pub WritesAll : Type 0
 WritesAll =
     ((s : Subjobs) (out old : List ℕ)
@@ -61,6 +72,15 @@ WritesAll =
     → accepted (values (graph.answer g (length out)))
     → length old ≡ length out
     → (graph.results g out ≡ graph.results g old) × (length (graph.results g out) ≡ length out))
+    × ((s : Subjobs) (ns out ks ps ks′ ps′ : List ℕ)
+    → accepted (values (rooms.judgement (room s ns out ks ps)))
+    → length ks′ ≡ length ks
+    → length ps′ ≡ length ps
+    → (rooms.numbersAfter (room s ns out ks ps) ≡ rooms.numbersAfter (room s ns out ks′ ps′))
+    × (rooms.placesAfter (room s ns out ks ps) ≡ rooms.placesAfter (room s ns out ks′ ps′))
+    × (length (rooms.deadlinesAfter (room s ns out ks ps)) ≡ length out)
+    × (length (rooms.numbersAfter (room s ns out ks ps)) ≡ length ks)
+    × (length (rooms.placesAfter (room s ns out ks ps)) ≡ length ps))
     × ((bs out old : List ℕ)
     → door.assigned bs (length out) ≡ 0
     → length old ≡ length out
@@ -110,6 +130,13 @@ OneCritical =
     → graph.Finds g out q other
     → (r ≡ q) × (new ≡ other)
 
+abbrev pub OneRoom : Type 0
+OneRoom =
+    (R : Room) (out ks ps out′ ks′ ps′ : List ℕ) (r q : Judgement)
+    → rooms.Assigns R r out ks ps
+    → rooms.Assigns R q out′ ks′ ps′
+    → (r ≡ q) × (out ≡ out′) × (ks ≡ ks′) × (ps ≡ ps′)
+
 abbrev pub OneDoorAssign : Type 0
 OneDoorAssign =
     (bs out new other : List ℕ) (r q : ℕ)
@@ -127,8 +154,18 @@ OneDoorCritical =
     → door.FindsBytes es bs out q other
     → (r ≡ q) × (new ≡ other)
 
+abbrev pub OneDoorRoom : Type 0
+OneDoorRoom =
+    (B : RoomBytes) (out ks ps out′ ks′ ps′ : List ℕ) (r q : ℕ)
+    → doorRooms.RoomsBytes B r out ks ps
+    → doorRooms.RoomsBytes B q out′ ks′ ps′
+    → (r ≡ q) × (out ≡ out′) × (ks ≡ ks′) × (ps ≡ ps′)
+
 abbrev pub OneJudge : Type 0
 OneJudge = (s : Subjobs) (others : Bool) (r q : Judgement) → Judges s others r → Judges s others q → r ≡ q
+
+abbrev pub OneLengths : Type 0
+OneLengths = (s : Subjobs) (others r q : Bool) → r ≡ oneLength s others → q ≡ oneLength s others → r ≡ q
 
 abbrev pub OneTell : Type 0
 OneTell = (reason : Reason) (r q : Told) → r ≡ tell reason → q ≡ tell reason → r ≡ q

@@ -38,7 +38,7 @@ one-length s others e =
       further = f .1;
     }
 
-all-one-length : (s : Subjobs) (others : Bool) → OneLength s others → oneLength s others ≡ true
+pub all-one-length : (s : Subjobs) (others : Bool) → OneLength s others → oneLength s others ≡ true
 all-one-length s others l =
     rw (
       eq-eqb _ _ (l .subtasks),

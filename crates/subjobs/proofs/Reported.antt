@@ -5,7 +5,7 @@ use mathlib.Core.Path.{_≡_}
 use native.Mathlib.Omega.{arith}
 use Rattle.subjobs.specs.declared.Judgement.the-variants.{Refused}
 use Rattle.subjobs.specs.declared.Reason.{Reason}
-use Rattle.subjobs.specs.declared.Reason.the-variants.{Lengths, TooMany, Range, Pair, Late, Unmet, Missed, Totals, TextTooLong, Header, Malformed, Stray, Cycle}
+use Rattle.subjobs.specs.declared.Reason.the-variants.{Lengths, TooMany, Range, Pair, Late, Unmet, Missed, Totals, TextTooLong, Header, Malformed, Stray, Cycle, TooLarge}
 use Rattle.subjobs.specs.Reasons.{numberOf, placeOf}
 use Rattle.subjobs.specs.Sets.{Subjobs}
 use Rattle.subjobs.specs.Judging.{judgement}
@@ -35,3 +35,4 @@ number-range Header = omega arith
 number-range (Malformed l) = omega arith
 number-range (Stray a) = omega arith
 number-range Cycle = omega arith
+number-range TooLarge = omega arith

@@ -11,7 +11,7 @@ use mathlib.Core.List.{List, [], _∷_}
 use Rattle.subjobs.specs.declared.Field.{Field}
 use Rattle.subjobs.specs.declared.Field.the-variants.{Release, Execution, Deadline, Critical, Hop}
 use Rattle.subjobs.specs.declared.Reason.{Reason}
-use Rattle.subjobs.specs.declared.Reason.the-variants.{Lengths, TooMany, Range, Pair, Late, Unmet, Missed, Totals, TextTooLong, Header, Malformed, Stray, Cycle}
+use Rattle.subjobs.specs.declared.Reason.the-variants.{Lengths, TooMany, Range, Pair, Late, Unmet, Missed, Totals, TextTooLong, Header, Malformed, Stray, Cycle, TooLarge}
 use Rattle.subjobs.specs.declared.Told.{Told}
 
 abbrev pub at : (number place : ℕ) → Told
@@ -38,6 +38,7 @@ tell Header = at 11 1
 tell (Malformed l) = at 12 l
 tell (Stray a) = at 20 a
 tell Cycle = at 21 0
+tell TooLarge = at 22 0
 
 abbrev pub numberOf : Reason → ℕ
 numberOf r = tell r .number

@@ -9,7 +9,7 @@ use crate::Judgement;
 use crate::Reason;
 
 // Whether all lists are of one length. `others` says it of the call's further lists.
-pub(crate) fn one_length(
+pub fn one_length(
     jobs: &[u32],
     subtasks: &[u32],
     releases: &[u32],

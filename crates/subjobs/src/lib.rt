@@ -4,7 +4,7 @@ ghost use Rattle.subjobs.specs.Reasons.{at, fieldNumber, tell};
 ghost use Rattle.subjobs.specs.Sets.{subjobs};
 ghost use Rattle.subjobs.specs.Judging.{Judges};
 
-mod judging;
+pub mod judging;
 
 // A field with a range of its own. The order in which those of a sub-job are looked at is that of `judging::range_at`; a
 // hop delay is an arc's.
@@ -16,7 +16,7 @@ pub enum Field {
     Hop,
 }
 
-// Why a set, a run, a proposal, a text or a graph is refused, with the details that the table of refusals reports.
+// Why a set, a run, a proposal, a text, a graph or a room is refused, with the details that the table of refusals reports.
 pub enum Reason {
     Lengths,
     TooMany,
@@ -48,9 +48,10 @@ pub enum Reason {
         arc: usize,
     },
     Cycle,
+    TooLarge,
 }
 
-// What refusals 1 to 4 say of a set; what a graph's say of it.
+// What refusals 1 to 4 say of a set; what a graph's or a room's say of it.
 pub enum Judgement {
     Passed,
     Refused(Reason),
@@ -125,6 +126,7 @@ pub fn tell(reason: Reason) -> Told
         Reason::Malformed { line } => at(12, line),
         Reason::Stray { arc } => at(20, arc),
         Reason::Cycle => at(21, 0),
+        Reason::TooLarge => at(22, 0),
     }
 }
 

@@ -1,8 +1,9 @@
 // The cases, one after another. A case is the number of its kind (1 assign, 2 simulate, 3 check,
-// 4 table, 5 critical times from a graph) and what the entry is called with; any other number ends
-// the text.
+// 4 table, 5 critical times from a graph, 6 room) and what the entry is called with; any other
+// number ends the text.
 use crate::printing;
 use crate::reading;
+use crate::rooms;
 use crate::saying;
 
 // Every case of a text. A case takes at least a byte; the test for one that does not is what shows
@@ -25,6 +26,7 @@ fn one(text: &[u8], at: &mut usize) {
         1 | 2 | 3 => of_a_set(kind, text, at),
         4 => table(text, at),
         5 => critical(text, at),
+        6 => rooms::room(text, at),
         _ => *at = text.len(),
     }
 }

@@ -1,5 +1,5 @@
 // The trial: it reads cases of the assignment, the simulator with its totals, the checker, the
-// table and the graph, and prints the answers, with the lists as they are afterwards. Its `stdin`
+// table, the graph and the room, and prints the answers, with the lists as they are afterwards. Its `stdin`
 // and `stdout` are written by the second program, which shares no code with the library, so the
 // gate holds the one to the other.
 ghost use mathlib.Core.Path.{_≡_};
@@ -8,6 +8,7 @@ ghost use lib.ListN.{length};
 mod cases;
 mod printing;
 mod reading;
+mod rooms;
 mod saying;
 
 fn main() {
@@ -16,10 +17,10 @@ fn main() {
     cases::all(&text[..n]);
 }
 
-// Room for every case, a mebibyte. The `ensures` gives only its length: a proof that saw the zeros
+// Room for every case, two mebibytes. The `ensures` gives only its length: a proof that saw the zeros
 // would count them.
-fn room() -> [u8; 1048576]
-    ensures { λ r. ⌜ 1048576 ≡ length r ⌝ }
+fn room() -> [u8; 2097152]
+    ensures { λ r. ⌜ 2097152 ≡ length r ⌝ }
 {
-    [0; 1048576]
+    [0; 2097152]
 }

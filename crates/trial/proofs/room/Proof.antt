@@ -9,4 +9,4 @@ pub room-spec : {M : Type 1} → statement M
 room-spec =
     tie.close
     (tie.spec
-    (λ c. sym (length-replicate {A = ℕ} 1048576 0)))
+    (λ c. sym (length-replicate {A = ℕ} 2097152 0)))

@@ -1,0 +1,4 @@
+pub mod Stretched
+pub mod Judged
+pub mod Outcome
+pub mod Cases

@@ -1,0 +1,4 @@
+pub mod Stretches
+pub mod Answers
+pub mod Faults
+pub mod Cases
