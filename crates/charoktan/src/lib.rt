@@ -1,5 +1,7 @@
 // The engine's door: the assignment and the checker on the engine's own bytes, 24 for each sub-job; critical times from a
 // graph, 4 for each sub-job and 12 for each arc; and all sets of a room, with 4 for each set's length.
+#![tactic(auto)]
+
 ghost use Rattle.std.specs.Prelude.{◌<◌, ◌≡◌};
 ghost use Rattle.subjobs.specs.Reasons.{place_of};
 ghost use Rattle.charoktan.specs.Records.{fitting, fitting_graph, Rooms, GraphWithin, GraphRooms};

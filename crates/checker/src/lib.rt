@@ -1,4 +1,6 @@
 // The checker of hand-set deadlines: it accepts exactly what meets the published conditions (6) and (7).
+#![tactic(auto)]
+
 ghost use Rattle.subjobs.specs.Sets.{subjobs};
 ghost use Rattle.checker.specs.Answers.{Checks};
 

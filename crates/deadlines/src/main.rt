@@ -1,4 +1,6 @@
 // The table program.
+#![tactic(auto)]
+
 mod desk;
 
 fn main() {

@@ -2,6 +2,8 @@
 //
 // The answer (specs/Answers.antt) is that of single ticks (Core and Runs of the crate `ticks`); the program jumps from event
 // to event (Events there). What its parts are held to is said in specs/Parts.antt.
+#![tactic(auto)]
+
 ghost use Rattle.subjobs.specs.Sets.{subjobs};
 ghost use Rattle.edf.specs.Answers.{Simulates, Runs};
 

@@ -1,5 +1,7 @@
 // Critical times from a job's graph: for each sub-job the greatest sum of executions and hop delays along any path of its
 // successors.
+#![tactic(auto)]
+
 ghost use Rattle.graph.specs.Graphs.{graph};
 ghost use Rattle.graph.specs.Answers.{Finds};
 

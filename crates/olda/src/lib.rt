@@ -4,6 +4,8 @@
 // order and has `placing` take the steps. What an order changes stands in one place each: the tie rule in
 // `choosing::behind`, what is taken off a deadline in `bounding::withheld`, how tails are added up in
 // `tailing::completions`, and which sub-jobs are placed in the count and the order that `placing::place_all` is given.
+#![tactic(auto)]
+
 ghost use Rattle.subjobs.specs.Sets.{subjobs};
 ghost use Rattle.olda.specs.Answers.{Assigns};
 

@@ -1,1 +1,2 @@
 // What is promised across the crates. No code: specs/ has the statements, proofs/ their proofs.
+#![tactic(auto)]

@@ -1,6 +1,8 @@
 // A room: the sets of several cores in one call. They stand one after another in the same six lists.
 //
 // `assign` tests the lists (1, 22) and then asks `olda::assign` set by set, each on its own stretch.
+#![tactic(auto)]
+
 ghost use Rattle.std.specs.Prelude.{◌+◌, ◌≤◌, ◌<◌, ◌≡◌, eqb, length};
 ghost use Rattle.lists.specs.Places.{total};
 ghost use Rattle.subjobs.specs.Sets.{subjobs};

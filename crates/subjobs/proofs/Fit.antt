@@ -147,6 +147,18 @@ module _ (s : Subjobs) (others : Bool) where
   pub lengths_exactly : Exactly (unless (one_length s others) Lengths) (OneLength s others) (λ r. (r ≡ Lengths) × (OneLength s others → ⊥))
   lengths_exactly = exactly_test (one_length s others) Lengths (one_length_lem s others) (all_one_length s others)
 
+  -- why each reason is given, in the order of the checks
+  reasons :
+      (r : Reason)
+      → Faulty s others r
+      → ((r ≡ Lengths) × (OneLength s others → ⊥))
+      ⊎ (OneLength s others × (((r ≡ TooMany) × (128 < size s)) ⊎ ((size s ≤ 128) × (FirstRange s r ⊎ (AllInRange s (size s) × FirstPair s r)))))
+  reasons _ (lengths n) = inl (refl, n)
+  reasons _ (many l m) = inr (l, inl (refl, m))
+  reasons _ (range p f l m b all before n) = inr (l, inr (m, inl (p, b, all, (f, refl, before, n))))
+  reasons _ (pair p j l m all b once before same) =
+      inr (l, inr (m, inr (all, (p, b, (λ k h i a q. once i k a h q.0 q.1), (refl, (j, before, same))))))
+
   pub judged : Exactly (judgement s others) (Fit s others) (Faulty s others)
   unfolding judgement
   judged =
@@ -166,14 +178,7 @@ module _ (s : Subjobs) (others : Bool) where
       let j = w.3.1 in
       rw w.3.0
       (pair w.0 j.0 l.0 m.0 a.0 w.1 (λ i k a b e f. w.2 k b i a (e, f)) j.1 j.2)))))
-      (λ r q.
-      elim q [
-        | lengths n ↦ inl (refl, n)
-        | many l m ↦ inr (l, inl (refl, m))
-        | range p f l m b all before n ↦ inr (l, inr (m, inl (p, b, all, (f, refl, before, n))))
-        | pair p j l m all b once before same ↦
-            inr (l, inr (m, inr (all, (p, b, (λ k h i a q. once i k a h q.0 q.1), (refl, (j, before, same))))))
-      ])
+      reasons
 
   pub passed_exactly : (judgement s others ≡ Passed) ↔ Fit s others
   passed_exactly = passing judged

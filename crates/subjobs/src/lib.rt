@@ -1,4 +1,6 @@
 // A set of sub-jobs, six lent lists of 32-bit numbers, and the reasons for which a set is refused.
+#![tactic(auto)]
+
 ghost use Rattle.std.specs.Prelude.{◌≡◌};
 ghost use Rattle.subjobs.specs.Reasons.{at, field_number, tell};
 ghost use Rattle.subjobs.specs.Sets.{subjobs};

@@ -1,4 +1,6 @@
 // A table of sub-jobs as RFC 4180 text in, its deadlines as text out.
+#![tactic(auto)]
+
 ghost use Rattle.table.specs.Answers.{Tables, Counts};
 
 mod reading;

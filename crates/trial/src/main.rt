@@ -2,6 +2,8 @@
 // table, the graph and the room, and prints the answers, with the lists as they are afterwards. Its `stdin`
 // and `stdout` are written by the second program, which shares no code with the library, so the
 // gate holds the one to the other.
+#![tactic(auto)]
+
 ghost use Rattle.std.specs.Prelude.{◌≡◌, length};
 
 mod cases;

@@ -1,0 +1,48 @@
+-- `judging::seen_earlier` meets its contract: at each turn what is left to look at decides the whole search.
+use borrow.Author.Rules.{rules}
+use borrow.Author.Tests.{eq-eqb, ne_eqb}
+use Prim.Native.Nat.{ℕ, ◌-◌}
+use mathlib.Core.Bool.{Bool, false, ◌&&◌, and-false}
+use mathlib.Core.List.{List}
+use mathlib.Core.Path.{◌≡◌, refl, sym, ◌∙◌}
+use lib.Dec.{eqb}
+use lib.ListN.{get_or}
+use Rattle.lists.proofs.Count.{some-last, some-but-last, some_none}
+use Rattle.subjobs.proofs.judging.seen_earlier.Goals as goal
+use Rattle.subjobs.proofs.judging.seen_earlier.Goals.{else-subtasks-j-via-then-subtasks-j+else-jobs-j, else-subtasks-j-via-else-subtasks-j}
+
+-- The pair at a place is the one looked for.
+abbrev Same : List ℕ → List ℕ → ℕ → ℕ → Bool
+Same jobs subtasks place i = eqb (get_or jobs i 0) (get_or jobs place 0) && eqb (get_or subtasks i 0) (get_or subtasks place 0)
+
+pub loop-j-init : goal.loop-j-init
+loop-j-init c =
+    (search rules, refl)
+
+pub returns-then-jobs-j : goal.returns-then-jobs-j
+returns-then-jobs-j c =
+    let L = c.loop-j in
+    let a = c.args in
+    sym
+    (sym L.invariant.1
+    ∙ some-last (Same a.jobs.now a.subtasks.now a.place) L.j c.loop-j-test.true (rw (eq-eqb _ _ c.if-jobs-j.true, eq-eqb _ _ c.if-subtasks-j.true)))
+
+pub loop-j-preserved : goal.loop-j-preserved
+loop-j-preserved c =
+    let L = c.loop-j in
+    let a = c.args in
+    let P = Same a.jobs.now a.subtasks.now a.place in
+    let no : P (L.j - 1) ≡ false =
+    elim c.else-subtasks-j.branch [
+      | else-subtasks-j-via-then-subtasks-j+else-jobs-j w ↦ rw (ne_eqb _ _ w.if-jobs-j.false)
+      | else-subtasks-j-via-else-subtasks-j w ↦
+          rw (ne_eqb _ _ w.if-subtasks-j.false) (and-false (eqb (get_or a.jobs.now (L.j - 1) 0) (get_or a.jobs.now a.place 0)))
+    ]
+    in
+    (search rules, sym (some-but-last P L.j c.loop-j-test.true no) ∙ L.invariant.1)
+
+pub returns : goal.returns
+returns c =
+    let L = c.loop-j in
+    let a = c.args in
+    sym (sym L.invariant.1 ∙ some_none (Same a.jobs.now a.subtasks.now a.place) L.j c.loop-j-test.false)
