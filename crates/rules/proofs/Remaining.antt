@@ -108,6 +108,23 @@ module _ (T : Terms) where
       (w.0, after b (d b) t (omega arith) w.1, w.2, w.3))
 
   module _ (o : Order T.lower) where
+    falls-on :
+        {zs ys : List ℕ} {p m : ℕ}
+        → Remains T zs ys
+        → Turn T ys p m
+        → (xs : List ℕ) (b k : ℕ)
+        → Ones T.execution xs
+        → Turn T xs b k
+        → zs ≡ without b xs
+        → m < k
+    falls-on still u xs b k ones t e = turn-falls T o xs ones t (rw e at u)
+    falls-on {zs} (after b' k' t' h r) u xs b k ones t e =
+        omega (
+          arith,
+          turn-falls T o xs ones t (rw e at t'),
+          falls-on r u zs b' k' (rw e (ones_without T.execution b xs ones)) t' refl,
+        )
+
     -- Completions fall from a turn to all later ones.
     pub remains-falls :
         {xs ys : List ℕ} {b p k m : ℕ}
@@ -116,9 +133,7 @@ module _ (T : Terms) where
         → Remains T (without b xs) ys
         → Turn T ys p m
         → m < k
-    remains-falls {xs} ones t still u = turn-falls T o xs ones t u
-    remains-falls {xs} {b = b} ones t (after b' k' t' h r) u =
-        omega (arith, turn-falls T o xs ones t t', remains-falls (ones_without T.execution b xs ones) t' r u)
+    remains-falls {xs} {b = b} {k = k} ones t r u = falls-on r u xs b k ones t refl
 
     -- All that remains after b is placed gets smaller deadlines than b.
     pub accepted-falls :

@@ -147,6 +147,20 @@ module _ {π ρ : ℕ → ℕ} {T T' : Terms} where
         is_completion = t.is_completion ∙ renamed_completion u;
       }
 
+  -- The same with what the recursion keeps in front.
+  accepts-on :
+      (d d' : ℕ → ℕ) {xs ys : List ℕ}
+      → Renamed π ρ T T' xs ys
+      → ((i : ℕ) → Memᴰ i xs → d i ≡ d' (π i))
+      → Accepts T d xs
+      → Accepts T' d' ys
+  accepts-on d d' {xs} {ys} e same over = rw (moved-nil π [] ys e.moved refl) over
+  accepts-on d d' {xs} {ys} e same (place b t h a) =
+      let k = turn_in t in
+      let q = same b k in
+      place (π b) (rw q at (renamed_turn e t)) (omega (arith, e.deadline b k, e.withheld b k))
+      (accepts-on d d' (renamed-without e k) (λ i m. same i (filter_in (λ j. not (eqb j b)) xs m).0) a)
+
   -- What the rules give xs, they give the new places.
   pub renamed-accepts :
       {xs ys : List ℕ}
@@ -155,22 +169,20 @@ module _ {π ρ : ℕ → ℕ} {T T' : Terms} where
       → ((i : ℕ) → Memᴰ i xs → d i ≡ d' (π i))
       → Accepts T d xs
       → Accepts T' d' ys
-  renamed-accepts {xs} {ys} e d d' same over = rw (moved-nil π [] ys e.moved refl) over
-  renamed-accepts {xs} {ys} e d d' same (place b t h a) =
+  renamed-accepts e d d' same a = accepts-on d d' e same a
+
+  refuses-on : {p m : ℕ} {xs ys : List ℕ} → Renamed π ρ T T' xs ys → Refuses T p m xs → Refuses T' (π p) m ys
+  refuses-on {p} e (here t h) =
       let k = turn_in t in
-      let q = same b k in
-      place (π b) (rw q at (renamed_turn e t)) (omega (arith, e.deadline b k, e.withheld b k))
-      (renamed-accepts (renamed-without e k) d d' (λ i m. same i (filter_in (λ j. not (eqb j b)) xs m).0) a)
+      here (renamed_turn e t) (omega (arith, e.deadline p k, e.withheld p k))
+  refuses-on e (later b m t h a) =
+      let k = turn_in t in
+      later (π b) m (renamed_turn e t) (omega (arith, e.deadline b k, e.withheld b k)) (refuses-on (renamed-without e k) a)
 
   -- Where the rules refuse xs, they refuse the new places.
   pub renamed-refuses :
       {xs ys : List ℕ} → Renamed π ρ T T' xs ys → {p m : ℕ} → Refuses T p m xs → Refuses T' (π p) m ys
-  renamed-refuses e {p} (here t h) =
-      let k = turn_in t in
-      here (renamed_turn e t) (omega (arith, e.deadline p k, e.withheld p k))
-  renamed-refuses e (later b m t h a) =
-      let k = turn_in t in
-      later (π b) m (renamed_turn e t) (omega (arith, e.deadline b k, e.withheld b k)) (renamed-refuses (renamed-without e k) a)
+  renamed-refuses e f = refuses-on e f
 
   -- The conditions, the slacks and the least of them, of deadlines d of xs that are the deadlines d' of the new places.
   module _ {xs ys : List ℕ} (e : Renamed π ρ T T' xs ys) (d d' : ℕ → ℕ) (same : (i : ℕ) → Memᴰ i xs → d i ≡ d' (π i)) where
