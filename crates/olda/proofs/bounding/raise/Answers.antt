@@ -1,0 +1,27 @@
+-- `bounding::raise` meets its contract: the bounds so far are raised.
+use borrow.Author.Rules.{rules}
+use Prim.Native.Nat.{◌-◌}
+use mathlib.Core.Path.{◌≡◌}
+use lib.ListN.{length, length-set}
+use Rattle.olda.proofs.Raised.{Risen, risen_none, risen-fits, risen-least, risen-more, risen_all}
+use Rattle.olda.proofs.bounding.raise.Goals as goal
+
+pub loop-i-init : goal.loop-i-init
+loop-i-init c =
+    (search risen_none, search rules)
+
+pub overflow_add-bounds : goal.overflow_add-bounds
+overflow_add-bounds c =
+    search risen-fits
+
+pub overflow_sub-bounds : goal.overflow_sub-bounds
+overflow_sub-bounds c =
+    search risen-least
+
+pub loop-i-preserved : goal.loop-i-preserved
+loop-i-preserved c =
+    (search risen-more, simp length-set (search rules))
+
+pub returns : goal.returns
+returns c =
+    search risen_all

@@ -1,0 +1,13 @@
+-- `fitting::copy` meets its contract: as far as it got, both lists are the same.
+use borrow.Author.Rules.{rules}
+use Prim.Native.Nat.{◌-◌}
+use mathlib.Core.Path.{◌≡◌, refl}
+use lib.ListN.{length, length-set}
+use Rattle.lists.proofs.Copied.{Copied, copied_none, copied_next, copied_whole}
+use Rattle.olda.proofs.fitting.copy.Given as goal
+
+abbrev pub invariant-loop-i : goal.invariant-loop-i
+invariant-loop-i l = Copied l.to l.from (length l.initial.to) l.i × (length l.to ≡ length l.initial.to)
+
+abbrev pub decreases-loop-i : goal.decreases-loop-i
+decreases-loop-i l = length l.initial.to - l.i

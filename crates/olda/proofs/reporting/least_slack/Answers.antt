@@ -1,0 +1,22 @@
+-- `reporting::least_slack` meets its contract: of the places looked at so far the one found has the least slack.
+use borrow.Author.Rules.{rules}
+use Prim.Native.Nat.{◌-◌}
+use lib.ListN.{length}
+use Rattle.olda.proofs.Chosen.{Tight, tight_one, tight-new, tight-old, tight_all}
+use Rattle.olda.proofs.reporting.least_slack.Goals as goal
+use Rattle.olda.proofs.reporting.least_slack.Goals.{then-tighter, else-tighter}
+
+pub loop-i-init : goal.loop-i-init
+loop-i-init c =
+    search (rules, tight_one)
+
+pub loop-i-preserved : goal.loop-i-preserved
+loop-i-preserved c =
+    elim c.if-tighter.branch [
+      then-tighter w ↦ rw w.p-is (search (rules, tight-new))
+    | else-tighter w ↦ rw w.p-is (search (rules, tight-old))
+    ]
+
+pub returns : goal.returns
+returns c =
+    search (rules, tight_all)
