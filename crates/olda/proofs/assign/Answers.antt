@@ -1,11 +1,9 @@
 -- `assign` meets its contract: a set that is judged to pass fits, and then the answer is the ruling of its steps, with the
 -- report where it passes.
 use borrow.Author.Rules.{rules}
-use mathlib.Core.List.{List}
-use Prim.Native.Nat.{ℕ}
 use Rattle.subjobs.specs.Sets.{Subjobs, subjobs}
 use Rattle.olda.specs.Parts.{Places}
-use Rattle.olda.proofs.Reports.{same_places, judged_refused, judged-fits, placed-length, placed-reporting, placed-refused, placed-passed}
+use Rattle.olda.proofs.Reports.{same_places, judged_refused, judged-fits, placed-reporting, placed-refused, placed-passed}
 use Rattle.olda.proofs.assign.Goals as goal
 use Rattle.olda.proofs.assign.Goals.{then-jobs-le8, else-jobs-le8}
 
@@ -28,8 +26,8 @@ report-requires c =
     in
     let p : Places s c.args.out.now c.if-jobs-le8.placed c.if-jobs-le8.out =
     elim c.if-jobs-le8.branch [
-      then-jobs-le8 w ↦ same_places w.out-is w.placed-is w.place_few-placed.ensures
-    | else-jobs-le8 w ↦ same_places w.out-is w.placed-is w.place_many-placed.ensures
+      | then-jobs-le8 w ↦ same_places w.out-is w.placed-is w.place_few-placed.ensures
+      | else-jobs-le8 w ↦ same_places w.out-is w.placed-is w.place_many-placed.ensures
     ]
     in
     placed-reporting s c.args.out.now c.judge-judgement.ensures c.in_default.is p
@@ -41,8 +39,8 @@ returns-in-Refused-placed c =
     in
     let p : Places s c.args.out.now c.if-jobs-le8.placed c.if-jobs-le8.out =
     elim c.if-jobs-le8.branch [
-      then-jobs-le8 w ↦ same_places w.out-is w.placed-is w.place_few-placed.ensures
-    | else-jobs-le8 w ↦ same_places w.out-is w.placed-is w.place_many-placed.ensures
+      | then-jobs-le8 w ↦ same_places w.out-is w.placed-is w.place_few-placed.ensures
+      | else-jobs-le8 w ↦ same_places w.out-is w.placed-is w.place_many-placed.ensures
     ]
     in
     placed-refused s c.args.out.now c.judge-judgement.ensures c.in_default.is p c.in-Refused-placed.is
@@ -54,8 +52,8 @@ returns-in-Passed c =
     in
     let p : Places s c.args.out.now c.if-jobs-le8.placed c.if-jobs-le8.out =
     elim c.if-jobs-le8.branch [
-      then-jobs-le8 w ↦ same_places w.out-is w.placed-is w.place_few-placed.ensures
-    | else-jobs-le8 w ↦ same_places w.out-is w.placed-is w.place_many-placed.ensures
+      | then-jobs-le8 w ↦ same_places w.out-is w.placed-is w.place_few-placed.ensures
+      | else-jobs-le8 w ↦ same_places w.out-is w.placed-is w.place_many-placed.ensures
     ]
     in
     placed-passed s c.args.out.now c.judge-judgement.ensures c.in_default.is p c.in-Passed.is c.report.ensures

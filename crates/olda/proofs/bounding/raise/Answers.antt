@@ -1,9 +1,7 @@
 -- `bounding::raise` meets its contract: the bounds so far are raised.
 use borrow.Author.Rules.{rules}
-use Prim.Native.Nat.{◌-◌}
-use mathlib.Core.Path.{◌≡◌}
-use lib.ListN.{length, length-set}
-use Rattle.olda.proofs.Raised.{Risen, risen_none, risen-fits, risen-least, risen-more, risen_all}
+use lib.ListN.{length-set}
+use Rattle.olda.proofs.Raised.{risen_none, risen-fits, risen-least, risen-more, risen_all}
 use Rattle.olda.proofs.bounding.raise.Goals as goal
 
 pub loop-i-init : goal.loop-i-init

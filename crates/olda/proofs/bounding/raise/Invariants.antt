@@ -1,9 +1,8 @@
 -- `bounding::raise` meets its contract: the bounds so far are raised.
-use borrow.Author.Rules.{rules}
 use Prim.Native.Nat.{◌-◌}
 use mathlib.Core.Path.{◌≡◌}
-use lib.ListN.{length, length-set}
-use Rattle.olda.proofs.Raised.{Risen, risen_none, risen-fits, risen-least, risen-more, risen_all}
+use lib.ListN.{length}
+use Rattle.olda.proofs.Raised.{Risen}
 use Rattle.olda.proofs.bounding.raise.Given as goal
 
 abbrev pub invariant-loop-i : goal.invariant-loop-i

@@ -1,13 +1,11 @@
 -- `choosing::base_job` meets its contract: of those looked at so far the one found is the base sub-job.
 use borrow.Author.Rules.{rules}
 use borrow.Author.Tests.{ne_eqb}
-use Prim.Native.Nat.{◌-◌}
 use mathlib.Core.Logic.{inl, inr}
 use mathlib.Core.Path.{sym, ◌∙◌}
 use native.Mathlib.Omega.{arith}
-use lib.ListN.{length}
-use Rattle.lists.proofs.Cases.{split, clash}
-use Rattle.olda.proofs.Chosen.{Topped, topped_first, topped_one, topped_held, topped-next, topped-bound, topped-new, topped-old, topped_all}
+use Rattle.lists.proofs.Cases.{clash}
+use Rattle.olda.proofs.Chosen.{topped_first, topped_one, topped_held, topped-next, topped-bound, topped-new, topped-old, topped_all}
 use Rattle.olda.proofs.choosing.base_job.Goals as goal
 use Rattle.olda.proofs.choosing.base_job.Goals.{then-top-bound, then-top-bound-via-then-top-bound, then-top-bound-via-else-top-bound+then-behind, then-top-bound-2, else-top-bound-2, else-top-bound+else-behind}
 
@@ -42,25 +40,25 @@ pub loop-i-preserved : goal.loop-i-preserved
 loop-i-preserved c =
     let T = c.loop-i.invariant in
     elim c.if-top-bound.branch [
-      then-top-bound w ↦
+      | then-top-bound w ↦
           rw (w.at-is, w.top-is)
           (topped-new T c.loop-i-test.true c.index-place.ensures
           (elim w.then-top-bound.branch [
-            then-top-bound-via-then-top-bound t ↦ inl t.if-top-bound.true
-          | then-top-bound-via-else-top-bound+then-behind t ↦
-              elim t.if-top-bound-2.branch [
-                then-top-bound-2 s ↦
-                    inr (s.if-top-bound-2.true, rw s.index-then-top-bound-2.ensures at (sym s.behind.ensures ∙ sym s.value-is ∙ t.if-behind.true))
-              | else-top-bound-2 s ↦ clash t.if-behind.true (s.value-is ∙ ne_eqb _ _ s.if-top-bound-2.false)
-              ]
+            | then-top-bound-via-then-top-bound t ↦ inl t.if-top-bound.true
+            | then-top-bound-via-else-top-bound+then-behind t ↦
+                elim t.if-top-bound-2.branch [
+                  | then-top-bound-2 s ↦
+                      inr (s.if-top-bound-2.true, rw s.index-then-top-bound-2.ensures at (sym s.behind.ensures ∙ sym s.value-is ∙ t.if-behind.true))
+                  | else-top-bound-2 s ↦ clash t.if-behind.true (s.value-is ∙ ne_eqb _ _ s.if-top-bound-2.false)
+                ]
           ]))
-    | else-top-bound+else-behind w ↦
+      | else-top-bound+else-behind w ↦
           rw (w.at-is, w.top-is)
           (topped-old T c.loop-i-test.true c.index-place.ensures
           (elim w.if-top-bound-2.branch [
-            then-top-bound-2 s ↦
+            | then-top-bound-2 s ↦
                 inr (s.if-top-bound-2.true, rw s.index-then-top-bound-2.ensures at (sym s.behind.ensures ∙ sym s.value-is ∙ w.if-behind.false))
-          | else-top-bound-2 s ↦ inl (omega (arith, w.if-top-bound.false, s.if-top-bound-2.false))
+            | else-top-bound-2 s ↦ inl (omega (arith, w.if-top-bound.false, s.if-top-bound-2.false))
           ]))
     ]
 

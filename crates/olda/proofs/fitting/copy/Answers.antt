@@ -1,9 +1,8 @@
 -- `fitting::copy` meets its contract: as far as it got, both lists are the same.
 use borrow.Author.Rules.{rules}
-use Prim.Native.Nat.{◌-◌}
-use mathlib.Core.Path.{◌≡◌, refl}
-use lib.ListN.{length, length-set}
-use Rattle.lists.proofs.Copied.{Copied, copied_none, copied_next, copied_whole}
+use mathlib.Core.Path.{refl}
+use lib.ListN.{length-set}
+use Rattle.lists.proofs.Copied.{copied_none, copied_next, copied_whole}
 use Rattle.olda.proofs.fitting.copy.Goals as goal
 
 pub loop-i-init : goal.loop-i-init

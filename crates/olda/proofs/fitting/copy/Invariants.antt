@@ -1,9 +1,8 @@
 -- `fitting::copy` meets its contract: as far as it got, both lists are the same.
-use borrow.Author.Rules.{rules}
 use Prim.Native.Nat.{◌-◌}
-use mathlib.Core.Path.{◌≡◌, refl}
-use lib.ListN.{length, length-set}
-use Rattle.lists.proofs.Copied.{Copied, copied_none, copied_next, copied_whole}
+use mathlib.Core.Path.{◌≡◌}
+use lib.ListN.{length}
+use Rattle.lists.proofs.Copied.{Copied}
 use Rattle.olda.proofs.fitting.copy.Given as goal
 
 abbrev pub invariant-loop-i : goal.invariant-loop-i

@@ -1,10 +1,10 @@
 -- `placing::place_all` meets its contract: the steps of what is left are the steps of all.
 use borrow.Author.Rules.{rules, sfits_of}
-use mathlib.Core.Path.{◌≡◌, ◌∙◌}
-use lib.ListN.{length, length-set}
+use mathlib.Core.Path.{◌∙◌}
+use lib.ListN.{length-set}
 use mir.Facts.{to_z-of_z}
 use mir.Syntax.{w64}
-use Rattle.olda.proofs.Stepping.{front, Stepping, stepping_tails, stepping-start, stepping_all, stepping-late, stepping-next, stepping_some, base-offset, base-start, base-end, base-fits, base-choosing, job-start, job-fits, job-offset, place-offset, job-bound, job-local, job-execution, job-leaving}
+use Rattle.olda.proofs.Stepping.{front, stepping_tails, stepping-start, stepping_all, stepping-late, stepping-next, stepping_some, base-offset, base-start, base-end, base-fits, base-choosing, job-start, job-fits, job-offset, place-offset, job-bound, job-local, job-execution, job-leaving}
 use Rattle.olda.proofs.placing.place_all.Goals as goal
 
 pub slice_bounds-completions-end-2 : goal.slice_bounds-completions-end-2
@@ -109,14 +109,13 @@ take_out-requires c =
     job-leaving c.loop-left.invariant.0 c.base_tail-start.ensures c.base_job.ensures c.index-place.ensures
 
 pub loop-left-preserved : goal.loop-left-preserved
-loop-left-preserved c =
-    (
-      stepping-next c.loop-left.invariant.0 c.base_tail-start.ensures c.base_job.ensures c.index-place.ensures c.loop-left-test.true
-          c.if-bounds-place.false c.take_out.ensures,
-      search rules,
-      search rules,
-      simp length-set (search rules),
-    )
+loop-left-preserved c = (
+  stepping-next c.loop-left.invariant.0 c.base_tail-start.ensures c.base_job.ensures c.index-place.ensures c.loop-left-test.true
+      c.if-bounds-place.false c.take_out.ensures,
+  search rules,
+  search rules,
+  simp length-set (search rules),
+)
 
 pub returns : goal.returns
 returns c =

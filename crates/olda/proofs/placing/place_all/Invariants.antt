@@ -1,10 +1,7 @@
 -- `placing::place_all` meets its contract: the steps of what is left are the steps of all.
-use borrow.Author.Rules.{rules, sfits_of}
-use mathlib.Core.Path.{◌≡◌, ◌∙◌}
-use lib.ListN.{length, length-set}
-use mir.Facts.{to_z-of_z}
-use mir.Syntax.{w64}
-use Rattle.olda.proofs.Stepping.{front, Stepping, stepping_tails, stepping-start, stepping_all, stepping-late, stepping-next, stepping_some, base-offset, base-start, base-end, base-fits, base-choosing, job-start, job-fits, job-offset, place-offset, job-bound, job-local, job-execution, job-leaving}
+use mathlib.Core.Path.{◌≡◌}
+use lib.ListN.{length}
+use Rattle.olda.proofs.Stepping.{Stepping}
 use Rattle.olda.proofs.placing.place_all.Given as goal
 
 abbrev pub invariant-loop-left : goal.invariant-loop-left

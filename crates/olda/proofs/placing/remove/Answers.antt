@@ -1,9 +1,7 @@
 -- `placing::remove` meets its contract: without the gap at `i` the numbers stay as they were without `k`.
 use borrow.Author.Rules.{rules}
-use Prim.Native.Nat.{◌-◌, ◌<◌, ◌≤◌}
-use mathlib.Core.Path.{◌≡◌, refl}
-use lib.ListN.{length, take, length-set}
-use Rattle.olda.specs.Parts.{rest}
+use mathlib.Core.Path.{refl}
+use lib.ListN.{length-set}
 use Rattle.olda.proofs.Shifts.{gap_up, gap_last}
 use Rattle.olda.proofs.placing.remove.Goals as goal
 

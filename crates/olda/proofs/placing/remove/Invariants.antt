@@ -1,10 +1,8 @@
 -- `placing::remove` meets its contract: without the gap at `i` the numbers stay as they were without `k`.
-use borrow.Author.Rules.{rules}
 use Prim.Native.Nat.{◌-◌, ◌<◌, ◌≤◌}
-use mathlib.Core.Path.{◌≡◌, refl}
-use lib.ListN.{length, take, length-set}
+use mathlib.Core.Path.{◌≡◌}
+use lib.ListN.{length, take}
 use Rattle.olda.specs.Parts.{rest}
-use Rattle.olda.proofs.Shifts.{gap_up, gap_last}
 use Rattle.olda.proofs.placing.remove.Given as goal
 
 abbrev pub invariant-loop-i : goal.invariant-loop-i

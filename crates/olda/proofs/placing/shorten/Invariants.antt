@@ -1,9 +1,8 @@
 -- `placing::shorten` meets its contract: the completions passed are lessened, the others stand as they stood.
-use borrow.Author.Rules.{rules}
 use Prim.Native.Nat.{◌-◌}
 use mathlib.Core.Path.{◌≡◌}
-use lib.ListN.{length, length-set}
-use Rattle.olda.proofs.Held.{Lessened, lessened_none, lessened_fits, lessened_next, lessened_all}
+use lib.ListN.{length}
+use Rattle.olda.proofs.Held.{Lessened}
 use Rattle.olda.proofs.placing.shorten.Given as goal
 
 abbrev pub invariant-loop-i : goal.invariant-loop-i

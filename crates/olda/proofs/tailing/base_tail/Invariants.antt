@@ -1,9 +1,7 @@
 -- `tailing::base_tail` meets its contract: of the completions seen so far the one found is the latest of the greatest.
-use borrow.Author.Rules.{rules}
 use Prim.Native.Nat.{◌-◌}
 use lib.ListN.{length}
-use Rattle.lists.proofs.Cases.{split}
-use Rattle.olda.proofs.Held.{Leading, leading_first, leading-new, leading-old, leading_all}
+use Rattle.olda.proofs.Held.{Leading}
 use Rattle.olda.proofs.tailing.base_tail.Given as goal
 
 abbrev pub invariant-loop-i : goal.invariant-loop-i

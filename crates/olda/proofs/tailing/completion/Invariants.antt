@@ -1,8 +1,7 @@
 -- `tailing::completion` meets its contract: what is added so far and what is left to add make the whole.
-use borrow.Author.Rules.{rules}
 use Prim.Native.Nat.{◌-◌}
 use lib.ListN.{length}
-use Rattle.olda.proofs.Adding.{Added, added_none, added-fits, added_more, added_all}
+use Rattle.olda.proofs.Adding.{Added}
 use Rattle.olda.proofs.tailing.completion.Given as goal
 
 abbrev pub invariant-loop-i : goal.invariant-loop-i

@@ -1,9 +1,7 @@
 -- `tailing::completions` meets its contract: the first i tails have their completions.
 use borrow.Author.Rules.{rules}
-use Prim.Native.Nat.{◌-◌}
-use mathlib.Core.Path.{◌≡◌}
-use lib.ListN.{length, length-set}
-use Rattle.olda.proofs.Adding.{ordered_asked, Summed, summed_none, summed-inside, summed-small, summed-more, summed_all}
+use lib.ListN.{length-set}
+use Rattle.olda.proofs.Adding.{ordered_asked, summed_none, summed-inside, summed-small, summed-more, summed_all}
 use Rattle.olda.proofs.tailing.completions.Goals as goal
 
 pub executions_in_order-requires : goal.executions_in_order-requires

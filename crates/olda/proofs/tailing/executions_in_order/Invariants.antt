@@ -1,9 +1,8 @@
 -- `tailing::executions_in_order` meets its contract: as far as it got, the executions stand in release order.
-use borrow.Author.Rules.{rules}
 use Prim.Native.Nat.{◌-◌}
 use mathlib.Core.Path.{◌≡◌}
-use lib.ListN.{length, length-set}
-use Rattle.olda.proofs.Adding.{Ordered, ordered_none, ordered_known, ordered_more, ordered_all}
+use lib.ListN.{length}
+use Rattle.olda.proofs.Adding.{Ordered}
 use Rattle.olda.proofs.tailing.executions_in_order.Given as goal
 
 abbrev pub invariant-loop-i : goal.invariant-loop-i
