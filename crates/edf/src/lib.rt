@@ -94,8 +94,12 @@ pub fn run(
         local.now asks.now finishes.old totals.old
         result totals.new finishes.new }
 {
+    let before = Totals {
+        busy: totals.busy,
+        idle: totals.idle,
+    };
     let simulated = simulate(
-        jobs, subtasks, releases, executions, deadlines, criticals, local, asks, finishes, *totals,
+        jobs, subtasks, releases, executions, deadlines, criticals, local, asks, finishes, before,
     );
     *totals = simulated.totals;
     simulated.answer
