@@ -16,7 +16,7 @@ use Rattle.graph.specs.Graphs.{Graph, size, cost, Path, Cycle}
 use Rattle.graph.specs.Answers.{critical, judgement, answer, results, Finds}
 use Rattle.graph.specs.Faults.{Sound}
 use Rattle.graph.specs.Faults as faults
-use Rattle.graph.specs.Parts.{at, Attained, Settled, Settling, Small}
+use Rattle.graph.specs.Parts.{Attained, Settled, Settling, Small}
 use Rattle.graph.proofs.Paths.{path-most}
 use Rattle.graph.proofs.Raising.{settled-acyclic, settled-heaviest}
 use Rattle.graph.proofs.Listed.{path-short, critical-heaviest, heaviest_one}

@@ -193,15 +193,12 @@ module _ (g : Graph) where
             (λ d. let h = d.1 in rw h.3.0 (stray h.0 l.0 m.0 c.0 d.0 h.1 h.2 h.3.1)))))
 
         faulty : (r : Reason) → Faulty g n r → Unsound r ⊎ (Sound g n × ((r ≡ Cycle) × graphs.Cycle g))
-        faulty r q =
-            elim q [
-              | lengths n ↦ inl (inl (refl, n))
-              | many l n ↦ inl (inr (l, inl (refl, n)))
-              | range p l m b all n ↦ inl (inr (l, inr (m, inl (p, b, all, (refl, n)))))
-              | delay a l m c b all n ↦ inl (inr (l, inr (m, inr (c, inl (a, b, all, (refl, n))))))
-              | stray a l m c d b all n ↦ inl (inr (l, inr (m, inr (c, inr (d, (a, b, all, (refl, n)))))))
-              | cycle s c ↦ inr (s, (refl, c))
-            ]
+        faulty _ (lengths n) = inl (inl (refl, n))
+        faulty _ (many l n) = inl (inr (l, inl (refl, n)))
+        faulty _ (range p l m b all n) = inl (inr (l, inr (m, inl (p, b, all, (refl, n)))))
+        faulty _ (delay a l m c b all n) = inl (inr (l, inr (m, inr (c, inl (a, b, all, (refl, n))))))
+        faulty _ (stray a l m c d b all n) = inl (inr (l, inr (m, inr (c, inr (d, (a, b, all, (refl, n)))))))
+        faulty _ (cycle s c) = inr (s, (refl, c))
 
     pub found-exactly : (answer g n ≡ Passed) ↔ Fit g n
     found-exactly = passing answered

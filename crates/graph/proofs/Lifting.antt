@@ -6,7 +6,7 @@ use native.Mathlib.Omega.{arith}
 use lib.ListN.{length, set, replicate, length-set}
 use Rattle.lists.proofs.Mapped.{zeros_at}
 use Rattle.graph.specs.declared.rounds.Ask.{Ask}
-use Rattle.graph.specs.Graphs.{Graph, size, arcs, before, after, cost}
+use Rattle.graph.specs.Graphs.{Graph, size, arcs, after, cost}
 use Rattle.graph.specs.Faults.{Sound}
 use Rattle.graph.specs.Parts.{at, Attained, AtMost, most, Asks, Linking, Lifting, Lifted, Guessing, Guessed}
 use Rattle.graph.proofs.Raising.{set_cases, attained_set, asking}
