@@ -1,5 +1,6 @@
 // The engine's door: the assignment and the checker on the engine's own bytes, 24 for each sub-job; critical times from a
-// graph, 4 for each sub-job and 12 for each arc; and all sets of a room, with 4 for each set's length.
+// graph, 4 for each sub-job and 12 for each arc; and all sets of a room, with 4 for each set's length. The crate
+// `charoktan_c` exports these functions to C and C++ under their names.
 #![tactic(auto)]
 
 ghost use Rattle.std.specs.Prelude.{◌<◌, ◌≡◌};
@@ -60,8 +61,7 @@ fn assign_in(records: &[u8], deadlines: &mut [u8], fields: &mut [u32], local: &m
 
 // The assignment: 0, with the deadlines written, or a refusal's number, with every byte left as it was. Up to 8 sub-jobs
 // work in rooms of their own, since these are cleared at each call.
-#[unsafe(no_mangle)]
-pub extern "C" fn charoktan_assign(records: &[u8], deadlines: &mut [u8]) -> u32
+pub fn charoktan_assign(records: &[u8], deadlines: &mut [u8]) -> u32
     ensures { AssignsBytes records.now deadlines.old result deadlines.new }
 {
     if !fitting(records, deadlines.len()) {
@@ -106,8 +106,7 @@ fn check_in(records: &[u8], deadlines: &[u8], fields: &mut [u32], proposed: &mut
 }
 
 // The checker: 0 if the proposed deadlines are accepted, or a refusal's number.
-#[unsafe(no_mangle)]
-pub extern "C" fn charoktan_check(records: &[u8], deadlines: &[u8]) -> u32
+pub fn charoktan_check(records: &[u8], deadlines: &[u8]) -> u32
     ensures { ChecksBytes records.now deadlines.now result }
 {
     if !fitting(records, deadlines.len()) {
@@ -215,8 +214,7 @@ fn critical_many(executions: &[u8], arcs: &[u8], results: &mut [u8]) -> u32
 }
 
 // Critical times from a graph: 0, with the results written, or a refusal's number, with every byte left as it was.
-#[unsafe(no_mangle)]
-pub extern "C" fn charoktan_critical(executions: &[u8], arcs: &[u8], results: &mut [u8]) -> u32
+pub fn charoktan_critical(executions: &[u8], arcs: &[u8], results: &mut [u8]) -> u32
     ensures { FindsBytes executions.now arcs.now results.old result results.new }
 {
     if !fitting_graph(executions, arcs, results.len()) {
@@ -235,8 +233,7 @@ pub extern "C" fn charoktan_critical(executions: &[u8], arcs: &[u8], results: &m
 
 // The sets of a room: 0, with each set's number and place written and the deadlines of those that are accepted; or a
 // refusal of the whole, with every byte left as it was.
-#[unsafe(no_mangle)]
-pub extern "C" fn charoktan_room(
+pub fn charoktan_room(
     records: &[u8],
     lengths: &[u8],
     deadlines: &mut [u8],

@@ -3,6 +3,8 @@
 
 mod desk;
 
-fn main() {
-    desk::serve();
+use std::io;
+
+fn main(rt: HostRuntime) -> io::Result<()> {
+    desk::serve(&rt)
 }

@@ -12,10 +12,12 @@ mod reading;
 mod rooms;
 mod saying;
 
-fn main() {
+use std::io;
+
+fn main(rt: HostRuntime) -> io::Result<()> {
     let mut text = room();
-    let n = io::read_full(libc::STDIN_FILENO, &mut text);
-    cases::all(&text[..n]);
+    let n = reading::fill(&rt, &mut text)?;
+    cases::all(&rt, &text[..n])
 }
 
 // Room for every case, two mebibytes. The `ensures` gives only its length: a proof that saw the zeros

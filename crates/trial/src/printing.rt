@@ -1,45 +1,47 @@
 // Answers as text on standard output.
 use crate::saying;
 use crate::saying::{say, wide};
+use std::io;
 use subjobs::Reason;
 
 // A space and a number.
-pub(crate) fn number(n: u64) {
-    say(b" ");
-    saying::number(n);
+pub(crate) fn number(rt: &HostRuntime, n: u64) -> io::Result<()> {
+    say(rt, b" ")?;
+    saying::number(rt, n)
 }
 
 // A space and a signed number.
-pub(crate) fn signed(x: i64) {
-    say(b" ");
-    saying::signed(x);
+pub(crate) fn signed(rt: &HostRuntime, x: i64) -> io::Result<()> {
+    say(rt, b" ")?;
+    saying::signed(rt, x)
 }
 
 // A colon and the numbers of a list, which end a line.
-pub(crate) fn list(numbers: &[u32]) {
-    say(b" :");
-    saying::list(numbers);
+pub(crate) fn list(rt: &HostRuntime, numbers: &[u32]) -> io::Result<()> {
+    say(rt, b" :")?;
+    saying::list(rt, numbers)
 }
 
 // The count of the bytes of a text, and these bytes, each with a line end behind it.
-pub(crate) fn bytes(text: &[u8]) {
-    saying::number(text.len() as u64);
-    say(b"\n");
-    say(text);
-    say(b"\n");
+pub(crate) fn bytes(rt: &HostRuntime, text: &[u8]) -> io::Result<()> {
+    saying::number(rt, text.len() as u64)?;
+    say(rt, b"\n")?;
+    say(rt, text)?;
+    say(rt, b"\n")
 }
 
 // A refusal: its number and place, for number 3 the field, for number 5 completion and bound.
-pub(crate) fn refusal(reason: Reason) {
+pub(crate) fn refusal(rt: &HostRuntime, reason: Reason) -> io::Result<()> {
     let told = subjobs::tell(reason);
-    say(b"refused");
-    number(wide(told.number));
-    number(told.place as u64);
+    say(rt, b"refused")?;
+    number(rt, wide(told.number))?;
+    number(rt, told.place as u64)?;
     if told.number == 3 {
-        number(wide(told.field));
+        number(rt, wide(told.field))?;
     }
     if told.number == 5 {
-        number(wide(told.completion));
-        signed(told.bound);
+        number(rt, wide(told.completion))?;
+        signed(rt, told.bound)?;
     }
+    Ok(())
 }

@@ -1,7 +1,25 @@
 // Numbers and lists of numbers in decimal text. Where the text is not as it should be, or has ended,
 // numbers are 0 and lists are empty: a case of kind 0 ends the program.
-ghost use Rattle.std.specs.Prelude.{◌<◌};
-ghost use Rattle.io.specs.Counts.{IsPrefixLen};
+ghost use Rattle.std.specs.Prelude.{◌<◌, ◌≤◌, IfOk, length};
+
+use std::io::{self, Read};
+
+// Reads standard input to its end or until the room is full, and answers how many bytes came; or the error of a read
+// that failed.
+pub(crate) fn fill(rt: &HostRuntime, room: &mut [u8]) -> io::Result<usize>
+    ensures { IfOk result (λ n. n ≤ length room.new) }
+{
+    let mut input = rt.stdin();
+    let mut n = 0;
+    while n < room.len() {
+        let more = input.read(&mut room[n..])?;
+        if more == 0 {
+            return Ok(n);
+        }
+        n += more;
+    }
+    Ok(n)
+}
 
 // The number that stands in the text at `at`, which goes on behind the one byte that follows it.
 pub(crate) fn number(text: &[u8], at: &mut usize) -> u64 {
@@ -20,7 +38,7 @@ pub(crate) fn number(text: &[u8], at: &mut usize) -> u64 {
 // The list that stands in the text at `at`, its length and then its numbers: how many it has. One
 // that `into` cannot hold ends the text.
 pub(crate) fn list(text: &[u8], at: &mut usize, into: &mut [u32]) -> usize
-    ensures { IsPrefixLen result into.new }
+    ensures { result ≤ length into.new }
 {
     let count = number(text, at) as usize;
     if into.len() < count {

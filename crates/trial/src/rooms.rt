@@ -1,8 +1,9 @@
 // A case of a room: the six lists, the lengths of the sets, and deadlines, numbers and places before the call.
 use crate::{printing, reading, saying};
+use std::io;
 
 // The lists with one number per sub-job are read here, the others by `sets`.
-pub(crate) fn room(text: &[u8], at: &mut usize) {
+pub(crate) fn room(rt: &HostRuntime, text: &[u8], at: &mut usize) -> io::Result<()> {
     let mut jobs = [0u32; 4_200];
     let mut subtasks = [0u32; 4_200];
     let mut releases = [0u32; 4_200];
@@ -16,6 +17,7 @@ pub(crate) fn room(text: &[u8], at: &mut usize) {
     let e = reading::list(text, at, &mut deadlines);
     let f = reading::list(text, at, &mut criticals);
     sets(
+        rt,
         text,
         at,
         &jobs[..a],
@@ -24,10 +26,11 @@ pub(crate) fn room(text: &[u8], at: &mut usize) {
         &executions[..d],
         &deadlines[..e],
         &criticals[..f],
-    );
+    )
 }
 
 fn sets(
+    rt: &HostRuntime,
     text: &[u8],
     at: &mut usize,
     jobs: &[u32],
@@ -36,7 +39,7 @@ fn sets(
     executions: &[u32],
     deadlines: &[u32],
     criticals: &[u32],
-) {
+) -> io::Result<()> {
     let mut lengths = [0u32; 48];
     let mut results = [0u32; 4_200];
     let mut numbers = [0u32; 48];
@@ -46,6 +49,7 @@ fn sets(
     let c = reading::list(text, at, &mut numbers);
     let d = reading::list(text, at, &mut places);
     assign(
+        rt,
         jobs,
         subtasks,
         releases,
@@ -56,11 +60,12 @@ fn sets(
         &mut results[..b],
         &mut numbers[..c],
         &mut places[..d],
-    );
+    )
 }
 
 // The call's answer, and deadlines, numbers and places after it.
 fn assign(
+    rt: &HostRuntime,
     jobs: &[u32],
     subtasks: &[u32],
     releases: &[u32],
@@ -71,15 +76,15 @@ fn assign(
     results: &mut [u32],
     numbers: &mut [u32],
     places: &mut [u32],
-) {
+) -> io::Result<()> {
     match room::assign(
         jobs, subtasks, releases, executions, deadlines, criticals, lengths, results, numbers,
         places,
     ) {
-        subjobs::Judgement::Passed => saying::say(b"assigned"),
-        subjobs::Judgement::Refused(reason) => printing::refusal(reason),
+        subjobs::Judgement::Passed => saying::say(rt, b"assigned")?,
+        subjobs::Judgement::Refused(reason) => printing::refusal(rt, reason)?,
     }
-    printing::list(results);
-    printing::list(numbers);
-    printing::list(places);
+    printing::list(rt, results)?;
+    printing::list(rt, numbers)?;
+    printing::list(rt, places)
 }

@@ -1,16 +1,16 @@
 // Text, numbers and lists of them on standard output.
 ghost use Rattle.std.specs.Prelude.{◌<◌, ◌≡◌};
 
-use libc::STDOUT_FILENO;
+use std::io;
 
 // Bytes as they are.
-pub(crate) fn say(text: &[u8]) {
-    io::write_all(STDOUT_FILENO, text);
+pub(crate) fn say(rt: &HostRuntime, text: &[u8]) -> io::Result<()> {
+    rt.write_all(text)
 }
 
 // A number in decimal.
-pub(crate) fn number(x: u64) {
-    io::print_decimal(STDOUT_FILENO, x);
+pub(crate) fn number(rt: &HostRuntime, x: u64) -> io::Result<()> {
+    rt.print(x)
 }
 
 // A number that is not below zero; 0 for one that is.
@@ -24,12 +24,12 @@ fn from_zero(x: i64) -> u64
 }
 
 // A signed number. What is below zero is told from its complement, -1 - x.
-pub(crate) fn signed(x: i64) {
+pub(crate) fn signed(rt: &HostRuntime, x: i64) -> io::Result<()> {
     if x < 0 {
-        say(b"-");
-        number(from_zero(!x) + 1);
+        say(rt, b"-")?;
+        number(rt, from_zero(!x) + 1)
     } else {
-        number(from_zero(x));
+        number(rt, from_zero(x))
     }
 }
 
@@ -41,12 +41,12 @@ pub(crate) fn wide(x: u32) -> u64
 }
 
 // The numbers of a list, a space before each, and the end of the line.
-pub(crate) fn list(numbers: &[u32]) {
+pub(crate) fn list(rt: &HostRuntime, numbers: &[u32]) -> io::Result<()> {
     let mut i = 0;
     while i < numbers.len() {
-        say(b" ");
-        number(wide(numbers[i]));
+        say(rt, b" ")?;
+        number(rt, wide(numbers[i]))?;
         i += 1;
     }
-    say(b"\n");
+    say(rt, b"\n")
 }
