@@ -1,0 +1,16 @@
+-- `bytes::column` meets its contract: what is read so far stands at the front.
+use borrow.Author.Rules.{rules}
+use Prim.Native.Nat.{◌+◌, ◌-◌, ◌*◌, ◌≤◌}
+use mathlib.Core.Path.{◌≡◌, refl}
+use native.Mathlib.Omega.{arith}
+use lib.ListN.{length, take, length-set}
+use Rattle.subjobs.proofs.LaidOut.{laid_apart}
+use Rattle.charoktan.specs.Records.{column}
+use Rattle.charoktan.proofs.Coding.{column_more}
+use Rattle.charoktan.proofs.bytes.column.Given as goal
+
+abbrev pub invariant-loop-i : goal.invariant-loop-i
+invariant-loop-i l = (l.i ≤ l.n) × (length l.out ≡ length l.initial.out) × (take l.i l.out ≡ column l.bytes l.width l.at l.i)
+
+abbrev pub decreases-loop-i : goal.decreases-loop-i
+decreases-loop-i l = l.n - l.i

@@ -1,0 +1,23 @@
+-- `bytes::record` meets its contract: the fields written so far have one number more, the others are as they were.
+use borrow.Author.Rules.{rules}
+use Prim.Native.Nat.{ℕ, ◌+◌, ◌-◌, ◌*◌, ◌≤◌, ◌<◌}
+use mathlib.Core.Path.{◌≡◌, ◌∙◌}
+use native.Mathlib.Omega.{arith}
+use lib.Dec.{eqb}
+use lib.ListN.{length, length-set}
+use Rattle.lists.proofs.Cases.{test, tests, eqb_no}
+use Rattle.subjobs.specs.Layout.{list_at}
+use Rattle.subjobs.proofs.LaidOut.{laid_apart, laid_other}
+use Rattle.charoktan.specs.Records.{column}
+use Rattle.charoktan.proofs.Coding.{field_more}
+use Rattle.charoktan.proofs.bytes.record.Given as goal
+
+abbrev pub invariant-loop-k : goal.invariant-loop-k
+invariant-loop-k l =
+    (l.k ≤ 6)
+    × (length l.out ≡ length l.initial.out)
+    × ((j : ℕ) → j < l.k → list_at l.out l.n j (l.i + 1) ≡ column l.bytes 24 (4 * j) (l.i + 1))
+    × ((j : ℕ) → l.k ≤ j → j < 6 → list_at l.out l.n j l.i ≡ column l.bytes 24 (4 * j) l.i)
+
+abbrev pub decreases-loop-k : goal.decreases-loop-k
+decreases-loop-k l = 6 - l.k

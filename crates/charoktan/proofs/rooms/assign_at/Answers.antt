@@ -1,0 +1,17 @@
+-- `rooms::assign_at` meets its contract: the set assigned is the one in the stretch, and the other bytes stay.
+use borrow.Author.Rules.{rules}
+use Prim.Native.Nat.{◌+◌, ◌-◌, ◌*◌}
+use mathlib.Core.Path.{◌≡◌}
+use native.Mathlib.Omega.{arith}
+use Rattle.charoktan.proofs.RoomDoor.{code_here, bytes-here}
+use Rattle.charoktan.proofs.rooms.assign_at.Goals as goal
+
+pub returns : goal.returns
+returns c =
+    let a = c.args in
+    let i : 24 * (a.start + a.count) - 24 * a.start ≡ 24 * a.count = omega arith in
+    let j : 4 * (a.start + a.count) - 4 * a.start ≡ 4 * a.count = omega arith in
+    let e = c.charoktan_assign.ensures in (
+      code_here a.records.now a.deadlines.now a.start a.count _ _ c.requires i j e.0,
+      bytes-here a.records.now a.deadlines.now a.start a.count _ _ c.requires i j e.1,
+    )
