@@ -2,7 +2,7 @@
 use Prim.Native.Nat.{ℕ, ◌+◌, ◌-◌, ◌≤◌, ◌<◌}
 use mathlib.Core.Bool.{Bool, true, false, ◌&&◌}
 use mathlib.Core.List.{List}
-use mathlib.Core.Logic.{◌↔◌, inl, inr}
+use mathlib.Core.Logic.{◌⊎◌, ◌↔◌, inl, inr}
 use mathlib.Core.Path.{◌≡◌, refl, sym, ap}
 use native.Mathlib.Omega.{arith}
 use borrow.Author.Tests.{eqb-true, eq-eqb, ne_eqb, le-leb, leb-true}
@@ -57,10 +57,11 @@ module _ (R : Room) where
       (λ h. record { whole = h.0; few = h.1 })
       (λ f. (f.whole, f.few))
       (λ r q. split q (λ h. rw h.0 (lengths h.1)) (λ h. rw h.1.0 (large h.0 h.1.1)))
-      (λ r q. elim q [
-        | lengths n ↦ inl (refl, n)
-        | large w n ↦ inr (w, (refl, n))
-      ])
+      faulty
+    where
+      faulty : (r : Reason) → Faulty R r → ((r ≡ Lengths) × (Whole R → ⊥)) ⊎ (Whole R × ((r ≡ TooLarge) × (Few R → ⊥)))
+      faulty _ (lengths n) = inl (refl, n)
+      faulty _ (large w n) = inr (w, (refl, n))
 
   pub read_exactly : (judgement R ≡ Passed) ↔ Fit R
   read_exactly = passing judged
