@@ -20,7 +20,7 @@ use Rattle.checker.specs.declared.Answer.TheVariants.{Accepted, Refused}
 use Rattle.checker.specs.Answers as checker
 use Rattle.checker.specs.Answers.{answer, values}
 use Rattle.checker.proofs.Accepts.{checked, seven-finishes, Unmets, Misses}
-use Rattle.promises.specs.Words.{accepted, at, Meets, MeetsSix, MeetsSeven}
+use Rattle.promises.specs.Words.{accepted, Meets, MeetsSix, MeetsSeven}
 use Rattle.promises.specs.Check as says
 use Rattle.promises.specs.Check.{proposed_fit, CheckSays, CheckAnswers, ChecksExactly, SevenOnTheCore, KeepsDeadlines}
 use Rattle.promises.proofs.Faulted.{faults, faulted, refused_number}

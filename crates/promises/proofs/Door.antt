@@ -28,7 +28,7 @@ use Rattle.charoktan.specs.Records.{count, records, encoded, words, fitting}
 use Rattle.charoktan.specs.Answers.{code, assigned, assigned_bytes, checked}
 use Rattle.charoktan.proofs.Coding.{length-encoded, words-encoded}
 use Rattle.charoktan.proofs.Door.{fit_length, size-records, unfit, answered, unfit_check, answered-check}
-use Rattle.promises.specs.Words.{accepted, Assigned, at}
+use Rattle.promises.specs.Words.{accepted, Assigned}
 use Rattle.promises.specs.Assign as assign
 use Rattle.promises.specs.Assign.{AssignSays}
 use Rattle.promises.specs.Check.{CheckSays}

@@ -14,7 +14,7 @@ use Rattle.subjobs.specs.Judging.{values}
 use Rattle.olda.specs.declared.Answer.{Answer}
 use Rattle.olda.specs.declared.Answer.TheVariants.{Placed, Nothing, Refused}
 use Rattle.olda.specs.Answers as olda
-use Rattle.stretches.specs.Stretches.{stretch, start}
+use Rattle.stretches.specs.Stretches.{start}
 use Rattle.stretches.specs.Answers.{Room, room, number, place, judgement, deadlines_after, numbers_after, places_after}
 use Rattle.stretches.specs.Faults as faults
 use Rattle.stretches.specs.Faults.{Fit, Faulty}

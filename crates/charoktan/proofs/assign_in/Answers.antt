@@ -32,7 +32,7 @@ slice_bounds-assign-end-2 c = simp length-take (omega arith)
 pub code-requires : goal.code-requires
 code-requires c =
     let e =
-        fields_records c.args.records.now _ _ _ _ _ _ _ c.columns.ensures c.field.ensures c.field-2.ensures c.field-3.ensures c.field-4.ensures c.field-5.ensures c.field-6.ensures
+    fields_records c.args.records.now _ _ _ _ _ _ _ c.columns.ensures c.field.ensures c.field-2.ensures c.field-3.ensures c.field-4.ensures c.field-5.ensures c.field-6.ensures
     in
     let w = said c.args.records.now c.args.local.now c.requires.list e c.assign-answer.ensures in
     let bs = c.args.records.now in omega (arith, refused_within (records bs) (count bs) c.in-Refused.reason (w.0 ∙ c.in-Refused.is))
@@ -43,7 +43,7 @@ put_all-requires c = (search rules, fit_length c.args.records.now (length c.args
 pub returns-in-Refused : goal.returns-in-Refused
 returns-in-Refused c =
     let e =
-        fields_records c.args.records.now _ _ _ _ _ _ _ c.columns.ensures c.field.ensures c.field-2.ensures c.field-3.ensures c.field-4.ensures c.field-5.ensures c.field-6.ensures
+    fields_records c.args.records.now _ _ _ _ _ _ _ c.columns.ensures c.field.ensures c.field-2.ensures c.field-3.ensures c.field-4.ensures c.field-5.ensures c.field-6.ensures
     in
     let w = said c.args.records.now c.args.local.now c.requires.list e c.assign-answer.ensures in
     assigns _ _ c.code.ensures refl
@@ -52,7 +52,7 @@ returns-in-Refused c =
 pub returns-in-Nothing : goal.returns-in-Nothing
 returns-in-Nothing c =
     let e =
-        fields_records c.args.records.now _ _ _ _ _ _ _ c.columns.ensures c.field.ensures c.field-2.ensures c.field-3.ensures c.field-4.ensures c.field-5.ensures c.field-6.ensures
+    fields_records c.args.records.now _ _ _ _ _ _ _ c.columns.ensures c.field.ensures c.field-2.ensures c.field-3.ensures c.field-4.ensures c.field-5.ensures c.field-6.ensures
     in
     let w = said c.args.records.now c.args.local.now c.requires.list e c.assign-answer.ensures in
     assigns _ _ refl refl (answered c.args.records.now c.args.deadlines.now c.requires.fits _ (w.0 ∙ c.in-Nothing.is))
@@ -60,7 +60,7 @@ returns-in-Nothing c =
 pub returns-in-Placed : goal.returns-in-Placed
 returns-in-Placed c =
     let e =
-        fields_records c.args.records.now _ _ _ _ _ _ _ c.columns.ensures c.field.ensures c.field-2.ensures c.field-3.ensures c.field-4.ensures c.field-5.ensures c.field-6.ensures
+    fields_records c.args.records.now _ _ _ _ _ _ _ c.columns.ensures c.field.ensures c.field-2.ensures c.field-3.ensures c.field-4.ensures c.field-5.ensures c.field-6.ensures
     in
     let w = said c.args.records.now c.args.local.now c.requires.list e c.assign-answer.ensures in
     let bs = c.args.records.now in

@@ -1,9 +1,6 @@
 -- `charoktan_check` meets its contract: lengths that do not fit, more than 128, and the rest by its size.
 use borrow.Author.Rules.{rules}
-use mathlib.Core.Bool.{true}
-use mathlib.Core.Path.{◌≡◌, refl, sym, ◌∙◌}
-use lib.ListN.{length}
-use Rattle.charoktan.specs.Records.{fitting}
+use mathlib.Core.Path.{refl, sym, ◌∙◌}
 use Rattle.charoktan.proofs.Door.{unfit_check, many-check}
 use Rattle.charoktan.proofs.charoktan_check.Goals as goal
 

@@ -1,14 +1,10 @@
 -- `charoktan_critical` meets its contract: lengths that do not fit, too many, and the rest by its size.
-use borrow.Author.Rules.{rules}
-use Prim.Native.Nat.{◌/◌, ◌≤◌}
-use mathlib.Core.Bool.{true, ◌&&◌}
-use mathlib.Core.Path.{◌≡◌, refl, sym, ◌∙◌}
-use borrow.Author.Tests.{not-true, not-false, leb-true, le-leb}
+use Prim.Native.Nat.{◌/◌}
+use mathlib.Core.Path.{refl, sym, ◌∙◌}
+use borrow.Author.Tests.{leb-true, le-leb}
 use native.Mathlib.Omega.{arith}
 use lib.ListN.{length}
-use lib.Dec.{leb}
 use Rattle.lists.proofs.Cases.{both, clash}
-use Rattle.charoktan.specs.Records.{fitting_graph}
 use Rattle.charoktan.proofs.GraphDoor.{size_graph, arcs_graph, graph-unfit, graph-many, finds}
 use Rattle.charoktan.proofs.charoktan_critical.Goals as goal
 

@@ -1,10 +1,5 @@
 -- `charoktan_room` meets its contract: the two tests, and every set assigned.
-use borrow.Author.Rules.{rules}
-use mathlib.Core.Bool.{true}
-use mathlib.Core.Path.{◌≡◌, sym, ◌∙◌}
-use borrow.Author.Tests.{not-true, not-false}
-use lib.ListN.{length}
-use Rattle.charoktan.specs.Rooms.{RoomBytes, room_bytes, fitting_room}
+use mathlib.Core.Path.{sym, ◌∙◌}
 use Rattle.charoktan.proofs.RoomDoor.{room-unfit, room-large, room-reads, room-read}
 use Rattle.charoktan.proofs.charoktan_room.Goals as goal
 

@@ -34,7 +34,7 @@ slice_bounds-check-end-2 c =
 pub code-requires : goal.code-requires
 code-requires c =
     let e =
-        fields_records c.args.records.now _ _ _ _ _ _ _ c.columns.ensures c.field.ensures c.field-2.ensures c.field-3.ensures c.field-4.ensures c.field-5.ensures c.field-6.ensures
+    fields_records c.args.records.now _ _ _ _ _ _ _ c.columns.ensures c.field.ensures c.field-2.ensures c.field-3.ensures c.field-4.ensures c.field-5.ensures c.field-6.ensures
     in
     let w = said c.args.records.now c.args.deadlines.now e c.column.ensures c.check-answer.ensures in
     let bs = c.args.records.now in
@@ -43,7 +43,7 @@ code-requires c =
 pub returns-in-Refused : goal.returns-in-Refused
 returns-in-Refused c =
     let e =
-        fields_records c.args.records.now _ _ _ _ _ _ _ c.columns.ensures c.field.ensures c.field-2.ensures c.field-3.ensures c.field-4.ensures c.field-5.ensures c.field-6.ensures
+    fields_records c.args.records.now _ _ _ _ _ _ _ c.columns.ensures c.field.ensures c.field-2.ensures c.field-3.ensures c.field-4.ensures c.field-5.ensures c.field-6.ensures
     in
     let w = said c.args.records.now c.args.deadlines.now e c.column.ensures c.check-answer.ensures in
     c.code.ensures
@@ -52,7 +52,7 @@ returns-in-Refused c =
 pub returns-in-Accepted : goal.returns-in-Accepted
 returns-in-Accepted c =
     let e =
-        fields_records c.args.records.now _ _ _ _ _ _ _ c.columns.ensures c.field.ensures c.field-2.ensures c.field-3.ensures c.field-4.ensures c.field-5.ensures c.field-6.ensures
+    fields_records c.args.records.now _ _ _ _ _ _ _ c.columns.ensures c.field.ensures c.field-2.ensures c.field-3.ensures c.field-4.ensures c.field-5.ensures c.field-6.ensures
     in
     let w = said c.args.records.now c.args.deadlines.now e c.column.ensures c.check-answer.ensures in
     sym (answered-check c.args.records.now c.args.deadlines.now c.requires.fits _ (w ∙ c.in-Accepted.is))

@@ -1,5 +1,4 @@
 -- `code` meets its contract: numbers and places are small, so the sum fits.
-use borrow.Author.Rules.{rules}
 use mathlib.Core.Path.{◌≡◌}
 use native.Mathlib.Omega.{arith}
 use Rattle.subjobs.specs.Reasons.{number_of, place_of}

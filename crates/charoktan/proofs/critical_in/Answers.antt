@@ -50,7 +50,7 @@ slice_bounds-critical-end-10 c =
 pub code-requires : goal.code-requires
 code-requires c =
     let e =
-        read c.args.executions.now c.args.arcs.now _ _ _ _ c.column.ensures c.column-2.ensures c.column-3.ensures c.column-4.ensures
+    read c.args.executions.now c.args.arcs.now _ _ _ _ c.column.ensures c.column-2.ensures c.column-3.ensures c.column-4.ensures
     in
     let w = said c.args.executions.now c.args.arcs.now c.args.local.now c.requires.list e c.critical-answer.ensures in
     refused_within (graph_of c.args.executions.now c.args.arcs.now) (length c.args.executions.now / 4) c.in-Refused.reason (w.0 ∙ c.in-Refused.is)
@@ -62,7 +62,7 @@ put_all-requires c =
 pub returns-in-Refused : goal.returns-in-Refused
 returns-in-Refused c =
     let e =
-        read c.args.executions.now c.args.arcs.now _ _ _ _ c.column.ensures c.column-2.ensures c.column-3.ensures c.column-4.ensures
+    read c.args.executions.now c.args.arcs.now _ _ _ _ c.column.ensures c.column-2.ensures c.column-3.ensures c.column-4.ensures
     in
     let w = said c.args.executions.now c.args.arcs.now c.args.local.now c.requires.list e c.critical-answer.ensures in
     finds _ _ _ c.code.ensures refl
@@ -71,7 +71,7 @@ returns-in-Refused c =
 pub returns-in-Passed : goal.returns-in-Passed
 returns-in-Passed c =
     let e =
-        read c.args.executions.now c.args.arcs.now _ _ _ _ c.column.ensures c.column-2.ensures c.column-3.ensures c.column-4.ensures
+    read c.args.executions.now c.args.arcs.now _ _ _ _ c.column.ensures c.column-2.ensures c.column-3.ensures c.column-4.ensures
     in
     let w = said c.args.executions.now c.args.arcs.now c.args.local.now c.requires.list e c.critical-answer.ensures in
     let g = graph_of c.args.executions.now c.args.arcs.now in

@@ -1,12 +1,8 @@
 -- `bytes::column` meets its contract: what is read so far stands at the front.
-use borrow.Author.Rules.{rules}
-use Prim.Native.Nat.{◌+◌, ◌-◌, ◌*◌, ◌≤◌}
-use mathlib.Core.Path.{◌≡◌, refl}
-use native.Mathlib.Omega.{arith}
-use lib.ListN.{length, take, length-set}
-use Rattle.subjobs.proofs.LaidOut.{laid_apart}
+use Prim.Native.Nat.{◌-◌, ◌≤◌}
+use mathlib.Core.Path.{◌≡◌}
+use lib.ListN.{length, take}
 use Rattle.charoktan.specs.Records.{column}
-use Rattle.charoktan.proofs.Coding.{column_more}
 use Rattle.charoktan.proofs.bytes.column.Given as goal
 
 abbrev pub invariant-loop-i : goal.invariant-loop-i

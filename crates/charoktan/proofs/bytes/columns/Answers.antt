@@ -1,10 +1,8 @@
 -- `bytes::columns` meets its contract: the records read so far stand in their lists.
 use borrow.Author.Rules.{rules}
-use Prim.Native.Nat.{◌-◌, ◌≤◌}
 use mathlib.Core.Path.{◌≡◌, refl}
 use native.Mathlib.Omega.{arith}
-use lib.ListN.{length}
-use Rattle.charoktan.specs.Records.{column, Fields}
+use Rattle.charoktan.specs.Records.{column}
 use Rattle.charoktan.proofs.bytes.columns.Goals as goal
 
 pub loop-i-init : goal.loop-i-init

@@ -1,5 +1,4 @@
 -- `bytes::field` meets its contract: the part from n * k to n * k + n has n places.
-use borrow.Author.Rules.{rules}
 use Prim.Native.Nat.{◌+◌, ◌-◌, ◌*◌}
 use mathlib.Core.Path.{◌≡◌}
 use native.Mathlib.Omega.{arith}

@@ -1,9 +1,8 @@
 -- `bytes::put_all` meets its contract: what is written so far stands before what was there.
 use borrow.Author.Rules.{rules}
-use Prim.Native.Nat.{◌≤◌, ◌-◌, ◌*◌}
-use mathlib.Core.List.{◌++◌}
+use Prim.Native.Nat.{◌*◌}
 use mathlib.Core.Path.{◌≡◌, refl, ◌∙◌}
-use lib.ListN.{length, take, drop}
+use lib.ListN.{take}
 use native.Mathlib.Omega.{arith}
 use Rattle.charoktan.specs.Records.{encoded}
 use Rattle.charoktan.proofs.Coding.{encoded_more, all_written}

@@ -1,12 +1,9 @@
 -- `bytes::put_all` meets its contract: what is written so far stands before what was there.
-use borrow.Author.Rules.{rules}
 use Prim.Native.Nat.{◌≤◌, ◌-◌, ◌*◌}
 use mathlib.Core.List.{◌++◌}
-use mathlib.Core.Path.{◌≡◌, refl, ◌∙◌}
+use mathlib.Core.Path.{◌≡◌}
 use lib.ListN.{length, take, drop}
-use native.Mathlib.Omega.{arith}
 use Rattle.charoktan.specs.Records.{encoded}
-use Rattle.charoktan.proofs.Coding.{encoded_more, all_written}
 use Rattle.charoktan.proofs.bytes.put_all.Given as goal
 
 abbrev pub invariant-loop-i : goal.invariant-loop-i

@@ -1,14 +1,12 @@
 -- `bytes::record` meets its contract: the fields written so far have one number more, the others are as they were.
 use borrow.Author.Rules.{rules}
-use Prim.Native.Nat.{ℕ, ◌+◌, ◌-◌, ◌*◌, ◌≤◌, ◌<◌}
+use Prim.Native.Nat.{◌+◌, ◌<◌}
 use mathlib.Core.Path.{◌≡◌, ◌∙◌}
 use native.Mathlib.Omega.{arith}
 use lib.Dec.{eqb}
-use lib.ListN.{length, length-set}
+use lib.ListN.{length-set}
 use Rattle.lists.proofs.Cases.{test, tests, eqb_no}
-use Rattle.subjobs.specs.Layout.{list_at}
 use Rattle.subjobs.proofs.LaidOut.{laid_apart, laid_other}
-use Rattle.charoktan.specs.Records.{column}
 use Rattle.charoktan.proofs.Coding.{field_more}
 use Rattle.charoktan.proofs.bytes.record.Goals as goal
 

@@ -1,15 +1,9 @@
 -- `bytes::record` meets its contract: the fields written so far have one number more, the others are as they were.
-use borrow.Author.Rules.{rules}
 use Prim.Native.Nat.{ℕ, ◌+◌, ◌-◌, ◌*◌, ◌≤◌, ◌<◌}
-use mathlib.Core.Path.{◌≡◌, ◌∙◌}
-use native.Mathlib.Omega.{arith}
-use lib.Dec.{eqb}
-use lib.ListN.{length, length-set}
-use Rattle.lists.proofs.Cases.{test, tests, eqb_no}
+use mathlib.Core.Path.{◌≡◌}
+use lib.ListN.{length}
 use Rattle.subjobs.specs.Layout.{list_at}
-use Rattle.subjobs.proofs.LaidOut.{laid_apart, laid_other}
 use Rattle.charoktan.specs.Records.{column}
-use Rattle.charoktan.proofs.Coding.{field_more}
 use Rattle.charoktan.proofs.bytes.record.Given as goal
 
 abbrev pub invariant-loop-k : goal.invariant-loop-k

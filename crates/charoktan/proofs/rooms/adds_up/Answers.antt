@@ -1,11 +1,7 @@
 -- `rooms::adds_up` meets its contract: what is left of the records is what the lengths that are left must make up.
-use borrow.Author.Rules.{rules}
-use Prim.Native.Nat.{◌-◌, ◌/◌}
 use mathlib.Core.Path.{refl}
 use native.Mathlib.Omega.{arith}
-use lib.ListN.{length}
-use Rattle.stretches.proofs.Judged.{Taken, taken_next, taken_short, taken_all}
-use Rattle.charoktan.specs.Rooms.{words_of}
+use Rattle.stretches.proofs.Judged.{taken_next, taken_short, taken_all}
 use Rattle.charoktan.proofs.RoomDoor.{words_length}
 use Rattle.charoktan.proofs.rooms.adds_up.Goals as goal
 

@@ -1,12 +1,8 @@
 -- `rooms::adds_up` meets its contract: what is left of the records is what the lengths that are left must make up.
-use borrow.Author.Rules.{rules}
 use Prim.Native.Nat.{◌-◌, ◌/◌}
-use mathlib.Core.Path.{refl}
-use native.Mathlib.Omega.{arith}
 use lib.ListN.{length}
-use Rattle.stretches.proofs.Judged.{Taken, taken_next, taken_short, taken_all}
+use Rattle.stretches.proofs.Judged.{Taken}
 use Rattle.charoktan.specs.Rooms.{words_of}
-use Rattle.charoktan.proofs.RoomDoor.{words_length}
 use Rattle.charoktan.proofs.rooms.adds_up.Given as goal
 
 abbrev pub invariant-loop-k : goal.invariant-loop-k

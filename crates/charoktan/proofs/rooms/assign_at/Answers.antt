@@ -1,5 +1,4 @@
 -- `rooms::assign_at` meets its contract: the set assigned is the one in the stretch, and the other bytes stay.
-use borrow.Author.Rules.{rules}
 use Prim.Native.Nat.{◌+◌, ◌-◌, ◌*◌}
 use mathlib.Core.Path.{◌≡◌}
 use native.Mathlib.Omega.{arith}

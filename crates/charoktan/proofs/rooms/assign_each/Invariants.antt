@@ -1,10 +1,7 @@
 -- `rooms::assign_each` meets its contract: each turn assigns one set, whatever became of those before it.
-use borrow.Author.Rules.{rules}
 use Prim.Native.Nat.{◌-◌, ◌/◌}
-use native.Mathlib.Omega.{arith}
 use lib.ListN.{length}
-use Rattle.charoktan.proofs.Coding.{put_length}
-use Rattle.charoktan.proofs.RoomDoor.{Turned, turned_none, turned-numbers, turned-places, turned-stretch, turned-next, turned-all}
+use Rattle.charoktan.proofs.RoomDoor.{Turned}
 use Rattle.charoktan.proofs.rooms.assign_each.Given as goal
 
 abbrev pub invariant-loop-k : goal.invariant-loop-k

@@ -1,5 +1,4 @@
 -- `rooms::fitting` meets its contract: records and deadlines, the further lists and the sum, one after the other.
-use borrow.Author.Rules.{rules}
 use Rattle.charoktan.proofs.rooms.fitting.Goals as goal
 
 pub returns : goal.returns

@@ -1,5 +1,4 @@
 -- `rooms::length_at` meets its contract.
-use borrow.Author.Rules.{rules}
 use mathlib.Core.Path.{◌∙◌}
 use Rattle.charoktan.proofs.RoomDoor.{length_here}
 use Rattle.charoktan.proofs.rooms.length_at.Goals as goal
