@@ -1,5 +1,5 @@
 -- What is asked of a room, list by list: what a room is that is read, and what one is that is refused. A law
--- (`read-exactly`, `refused-exactly`) says that the judgement is just this.
+-- (`read_exactly`, `refused_exactly`) says that the judgement is just this.
 --
 --   Whole R     == lists of one kind are of one length, and the lengths add up
 --   Few R       == at most 32 sets and 4,096 places
