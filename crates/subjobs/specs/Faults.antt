@@ -1,5 +1,5 @@
 -- Numbers 1 to 4 place by place and with no search: what a set is that passes, and what one is that is refused. A law
--- (`judged-exactly`, `passed-exactly`) says that the judgement is just this. `others` says of the call's further lists that
+-- (`judged_exactly`, `passed_exactly`) says that the judgement is just this. `others` says of the call's further lists that
 -- they are as long as the six.
 --
 --   OneLength s others == all lists are of one length
