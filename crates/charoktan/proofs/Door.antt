@@ -114,13 +114,13 @@ module _ (bs ds : List ℕ) where
   unfit_check e = rw e
 
   module _ (e : fitting bs (length ds) ≡ true) where
-    pub answered-check :
+    pub answered_check :
         (a : checker.Answer) → checkers.answer (records bs) (words ds (count bs)) ≡ a → checked bs ds ≡ checking a
     unfolding checked
-    answered-check a q = rw (e, q)
+    answered_check a q = rw (e, q)
 
-    pub many-check : 128 < count bs → checked bs ds ≡ 2
+    pub many_check : 128 < count bs → checked bs ds ≡ 2
     unfolding checkers.answer
-    many-check h =
-        answered-check (check.Refused TooMany)
+    many_check h =
+        answered_check (check.Refused TooMany)
         (rw (judged_many bs (eqb (length (words ds (count bs))) (size (records bs))) (eq-eqb _ _ (length-column ds 4 0 (count bs) ∙ sym (size-records bs))) h))

@@ -43,31 +43,31 @@ module _ (es bs : List ℕ) where
   read cs from to hs a b c d = rw (a, b, c, d)
 
   module _ (out : List ℕ) where
-    pub graph-unfit : fitting_graph es bs (length out) ≡ false → (found es bs (length out) ≡ 1) × (found_bytes es bs out ≡ out)
+    pub graph_unfit : fitting_graph es bs (length out) ≡ false → (found es bs (length out) ≡ 1) × (found_bytes es bs out ≡ out)
     unfolding found found_bytes
-    graph-unfit e = (rw e, rw e)
+    graph_unfit e = (rw e, rw e)
 
     module _ (e : fitting_graph es bs (length out) ≡ true) where
-      pub graph-length : length out ≡ 4 * (length es / 4)
-      graph-length =
+      pub graph_length : length out ≡ 4 * (length es / 4)
+      graph_length =
           let w = both {a = eqb (length es % 4) 0 && eqb (length bs % 12) 0} {b = eqb (length out) (length es)} e in
           let v = both {a = eqb (length es % 4) 0} {b = eqb (length bs % 12) 0} w.0 in
           omega (arith, eqb-true (length out) (length es) w.1, eqb-true (length es % 4) 0 v.0)
 
-      pub graph-answered :
+      pub graph_answered :
           (a : Judgement)
           → answer (graph_of es bs) (length es / 4) ≡ a
           → (found es bs (length out) ≡ if_passed a 0 code)
           × (found_bytes es bs out ≡ if_passed a (encoded (results (graph_of es bs) (replicate (length es / 4) 0))) (λ r. out))
       unfolding found found_bytes
-      graph-answered a q = (rw (e, q), rw (e, q))
+      graph_answered a q = (rw (e, q), rw (e, q))
 
-      pub graph-many : (Few (graph_of es bs) → ⊥) → (found es bs (length out) ≡ 2) × (found_bytes es bs out ≡ out)
+      pub graph_many : (Few (graph_of es bs) → ⊥) → (found es bs (length out) ≡ 2) × (found_bytes es bs out ≡ out)
       unfolding graph_of
-      graph-many n =
+      graph_many n =
           let m = length bs / 12 in
           let l : (k : ℕ) → length (column bs 12 k m) ≡ length (column bs 12 0 m) = λ k. length-column bs 12 k m ∙ sym (length-column bs 12 0 m) in
-          graph-answered (Refused TooMany)
+          graph_answered (Refused TooMany)
           ((refused_exactly (graph_of es bs) (length es / 4) TooMany).1
           (faults.many (record { results = sym (length-column es 4 0 (length es / 4)); afters = l 4; hops = l 8 }) n))
 

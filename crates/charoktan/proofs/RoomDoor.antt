@@ -14,7 +14,7 @@ use Rattle.lists.proofs.Cases.{both}
 use Rattle.stretches.specs.Stretches.{stretch, start, each}
 use Rattle.stretches.specs.Answers.{few}
 use Rattle.stretches.specs.Stretches.{replaced}
-use Rattle.stretches.proofs.Stretched.{each-length, each_at, Written, written_none, written_start, written-stretch, written-inside, written-more, written_all}
+use Rattle.stretches.proofs.Stretched.{each-length, each_at, Written, written_none, written_start, written_stretch, written_inside, written_more, written_all}
 use Rattle.charoktan.specs.Records.{bytes, column, count, fitting, word}
 use Rattle.charoktan.specs.Answers.{assigned, assigned_bytes}
 use Rattle.charoktan.specs.Rooms.{RoomBytes, words_of, code_at, bytes_at, fitting_room, roomed, deadline_bytes, number_bytes, place_bytes, RoomsBytes, Stretch, Reads, AllRoomed}
@@ -62,10 +62,10 @@ module _ (bs out : List ℕ) (a n i j : ℕ) (S : Stretch bs out a n) (ei : i �
   pub code_here : {r : ℕ} → r ≡ assigned (stretch (24 * a) i bs) (length (stretch (4 * a) j out)) → r ≡ code_at bs a n
   code_here e = e ∙ rw (ei, ej, stretch_long)
 
-  pub bytes-here :
+  pub bytes_here :
       {l : List ℕ} → l ≡ assigned_bytes (stretch (24 * a) i bs) (stretch (4 * a) j out)
       → replaced (4 * a) j l out ≡ replaced (4 * a) (4 * n) (bytes_at bs out a n) out
-  bytes-here e = rw (e, ei, ej)
+  bytes_here e = rw (e, ei, ej)
 
   pub bytes_long : length (bytes_at bs out a n) ≡ 4 * n
   bytes_long = assigned_length (stretch (24 * a) (24 * n) bs) (stretch (4 * a) (4 * n) out) ∙ stretch_long
@@ -100,41 +100,41 @@ module _ (bs ls : List ℕ) where
       }
 
   module _ {old ks₀ ps₀ out ks ps : List ℕ} {a k : ℕ} (T : Turned old ks₀ ps₀ out ks ps a k) where
-    pub turned-numbers : length ks ≡ 4 * (length ls / 4)
-    turned-numbers = put_length T.numbered ∙ T.reads.numbers
+    pub turned_numbers : length ks ≡ 4 * (length ls / 4)
+    turned_numbers = put_length T.numbered ∙ T.reads.numbers
 
-    pub turned-places : length ps ≡ 4 * (length ls / 4)
-    turned-places = put_length T.placed ∙ T.reads.places
+    pub turned_places : length ps ≡ 4 * (length ls / 4)
+    turned_places = put_length T.placed ∙ T.reads.places
 
     module _ (h : k < length ls / 4) (n : ℕ) (en : n ≡ get_or (words_of ls) k 0) where
       inside : k < length (words_of ls)
       inside = omega (arith, words_length ls)
 
-      pub turned-stretch : Stretch bs out a n
-      turned-stretch =
+      pub turned_stretch : Stretch bs out a n
+      turned_stretch =
           record {
-            inside = omega (arith, written-inside 4 (bytes_at bs old) (words_of ls) old out a k T.written inside n en, T.reads.sum);
+            inside = omega (arith, written_inside 4 (bytes_at bs old) (words_of ls) old out a k T.written inside n en, T.reads.sum);
             few = T.reads.lists.few;
             results = T.written.room ∙ T.reads.lists.results;
           }
 
-      pub turned-next :
+      pub turned_next :
           {out' ks' ps' : List ℕ} {r : ℕ}
           → r ≡ code_at bs a n
           → out' ≡ replaced (4 * a) (4 * n) (bytes_at bs out a n) out
           → ks' ≡ take (4 * k) ks ++ bytes (r % 65_536) ++ drop (4 * k + 4) ks
           → ps' ≡ take (4 * k) ps ++ bytes (r / 65_536) ++ drop (4 * k + 4) ps
           → Turned old ks₀ ps₀ out' ks' ps' (a + n) (k + 1)
-      turned-next {out'} {ks'} {ps'} {r} er eo ek ep =
+      turned_next {out'} {ks'} {ps'} {r} er eo ek ep =
           let W = T.written in
-          let S = turned-stretch in
+          let S = turned_stretch in
           let at : a ≡ start (words_of ls) k = written_start 4 (bytes_at bs old) (words_of ls) old out a k W in
           record {
             reads = T.reads;
             written =
-                written-more 4 (bytes_at bs old) (words_of ls) old out a k W inside n en (4 * a) (4 * n) (bytes_at bs out a n) out' refl refl
+                written_more 4 (bytes_at bs old) (words_of ls) old out a k W inside n en (4 * a) (4 * n) (bytes_at bs out a n) out' refl refl
                 (omega (arith, S.inside, S.results))
-                (rw (written-stretch 4 (bytes_at bs old) (words_of ls) old out a k W (4 * a) (4 * n) refl))
+                (rw (written_stretch 4 (bytes_at bs old) (words_of ls) old out a k W (4 * a) (4 * n) refl))
                 (bytes_long bs out a n (24 * n) (4 * n) S refl refl)
                 eo;
             numbered =
@@ -147,8 +147,8 @@ module _ (bs ls : List ℕ) where
                 ep;
           }
 
-    pub turned-all : length ls / 4 ≤ k → AllRoomed bs ls old out ks ps
-    turned-all h =
+    pub turned_all : length ls / 4 ≤ k → AllRoomed bs ls old out ks ps
+    turned_all h =
         record {
           deadlines =
               written_all 4 (bytes_at bs old) (words_of ls) old out a k T.written (omega (arith, words_length ls))
@@ -165,20 +165,20 @@ module _ (B : RoomBytes) where
   unfolding deadline_bytes number_bytes place_bytes
   refused r z e = record { number = sym e; deadlines = rw (e, z); numbers = rw (e, z); places = rw (e, z) }
 
-  pub room-unfit :
+  pub room_unfit :
       fitting_room B.records B.lengths (length B.deadlines) (length B.numbers) (length B.places) ≡ false
       → RoomsBytes B 1 B.deadlines B.numbers B.places
   unfolding roomed
-  room-unfit e = refused 1 refl (rw e)
+  room_unfit e = refused 1 refl (rw e)
 
   module _ (e : fits) where
-    pub room-fitted :
+    pub room_fitted :
         (fitting B.records (length B.deadlines) ≡ true)
         × (length B.lengths % 4 ≡ 0)
         × (length B.numbers ≡ length B.lengths)
         × (length B.places ≡ length B.lengths)
         × (total (words_of B.lengths) ≡ count B.records)
-    room-fitted =
+    room_fitted =
         let records = fitting B.records (length B.deadlines) in
         let lengths = eqb (length B.lengths % 4) 0 in
         let numbers = eqb (length B.numbers) (length B.lengths) in
@@ -188,17 +188,17 @@ module _ (B : RoomBytes) where
         let a = both {a = records} b.0 in
         (a.0, eqb-true _ _ a.1, eqb-true _ _ b.1, eqb-true _ _ c.1, eqb-true _ _ d.1)
 
-    pub room-large : few (length B.lengths / 4) (count B.records) ≡ false → RoomsBytes B 22 B.deadlines B.numbers B.places
+    pub room_large : few (length B.lengths / 4) (count B.records) ≡ false → RoomsBytes B 22 B.deadlines B.numbers B.places
     unfolding roomed
-    room-large f = refused 22 refl (rw (e, f))
+    room_large f = refused 22 refl (rw (e, f))
 
     module _ (f : few (length B.lengths / 4) (count B.records) ≡ true) where
-      pub room-reads : Reads B.records B.lengths B.deadlines B.numbers B.places
-      room-reads =
+      pub room_reads : Reads B.records B.lengths B.deadlines B.numbers B.places
+      room_reads =
           let bs = B.records in
           let ls = B.lengths in
           let g = both {a = leb (length ls / 4) 32} f in
-          let w = room-fitted in
+          let w = room_fitted in
           let whole = w.1 in
           record {
             lists = record { inside = omega arith; few = leb-true _ _ g.1; results = fit_length bs (length B.deadlines) w.0 };
@@ -208,8 +208,8 @@ module _ (B : RoomBytes) where
             places = omega (arith, w.3);
           }
 
-      pub room-read :
+      pub room_read :
           {out ks ps : List ℕ} → AllRoomed B.records B.lengths B.deadlines out ks ps → RoomsBytes B 0 out ks ps
       unfolding roomed deadline_bytes number_bytes place_bytes
-      room-read a =
+      room_read a =
           record { number = rw (e, f); deadlines = rw (e, f) a.deadlines; numbers = rw (e, f) a.numbers; places = rw (e, f) a.places }

@@ -10,7 +10,7 @@ use Rattle.subjobs.specs.Sets.{Subjobs, size}
 use Rattle.subjobs.proofs.Fit.{fit}
 use Rattle.ticks.specs.Runs.{run}
 use Rattle.edf.specs.Answers.{finishes}
-use Rattle.edf.proofs.Fresh.{fresh-finishes}
+use Rattle.edf.proofs.Fresh.{fresh_finishes}
 use Rattle.checker.specs.Answers.{judged}
 
 pub ran :
@@ -19,4 +19,4 @@ pub ran :
     → finishes s ds s.executions fs (record { busy = 0; idle = 0 }) ≡ (run s ds s.executions).finishes
 ran s ds passed fs e =
     let l = (fit s _ passed).lengths in
-    fresh-finishes s ds s.executions (rw l.further at passed) fs (eqb-true _ _ l.further) l.executions e
+    fresh_finishes s ds s.executions (rw l.further at passed) fs (eqb-true _ _ l.further) l.executions e

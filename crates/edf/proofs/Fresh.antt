@@ -37,13 +37,13 @@ module _ (s : Subjobs) (ds asks : List ℕ) (passed : judgement s true ≡ Passe
         le-ltb 1_000_000_000_000_000_000 (0 + (run s ds asks).idle) (omega arith),
       )
 
-  pub fresh-finishes :
+  pub fresh_finishes :
       (fs : List ℕ)
       → length ds ≡ size s
       → length asks ≡ size s
       → length fs ≡ size s
       → finishes s ds asks fs (record { busy = 0; idle = 0 }) ≡ (run s ds asks).finishes
   unfolding finishes answer
-  fresh-finishes fs d a f =
+  fresh_finishes fs d a f =
       let further : further_lists s ds asks (length fs) ≡ true = rw (eq-eqb _ _ d, eq-eqb _ _ a, eq-eqb _ _ f) in
       rw (further, passed, not_above)

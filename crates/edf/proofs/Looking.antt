@@ -81,18 +81,18 @@ module _ {lt : ℕ → ℕ → Bool} {U : ℕ → Bool} {n b i : ℕ} (K : Looki
     unfolding filter
     look_skip u = onto b K.best (rw (from_step n i h, u))
 
-    pub look-first : U i ≡ true → b ≡ n → Looking lt U n i (i + 1)
+    pub look_first : U i ≡ true → b ≡ n → Looking lt U n i (i + 1)
     unfolding filter choose
-    look-first u e = onto i (omega arith) (rw (from_step n i h, u, le-ltb b n (omega arith), lt-ltb i n h))
+    look_first u e = onto i (omega arith) (rw (from_step n i h, u, le-ltb b n (omega arith), lt-ltb i n h))
 
-    pub look-better : U i ≡ true → b < n → lt i b ≡ true → Looking lt U n i (i + 1)
+    pub look_better : U i ≡ true → b < n → lt i b ≡ true → Looking lt U n i (i + 1)
     unfolding filter
-    look-better u l e =
+    look_better u l e =
         onto i (omega arith) (rw (from_step n i h, u, lt-ltb b n l, lt-ltb i n h) (ap some (ahead_takes lt b i _ e)))
 
-    pub look-worse : U i ≡ true → b < n → lt i b ≡ false → Looking lt U n b (i + 1)
+    pub look_worse : U i ≡ true → b < n → lt i b ≡ false → Looking lt U n b (i + 1)
     unfolding filter
-    look-worse u l e = onto b K.best (rw (from_step n i h, u, lt-ltb b n l) (ap some (ahead_stays lt b i _ e)))
+    look_worse u l e = onto b K.best (rw (from_step n i h, u, lt-ltb b n l) (ap some (ahead_stays lt b i _ e)))
 
 -- The least of some numbers above 0, where 0 stands for none.
 least_more :
@@ -125,9 +125,9 @@ from_back n i h l =
     from_step n (i - 1) (omega arith) ∙ ap (λ (k : ℕ). (i - 1) ∷ from k (n - k)) z
 
 module _ {r : ℕ → ℕ} {t n x i : ℕ} (N : Nearest r t n x i) where
-  pub nearest-more :
+  pub nearest_more :
       0 < i → (y : ℕ) → y ≡ cond (ltb t (r (i - 1))) (cond (eqb x 0) (r (i - 1)) (min (r (i - 1)) x)) x → Nearest r t n y (i - 1)
-  nearest-more h y e =
+  nearest_more h y e =
       let U : ℕ → Bool = λ k. ltb t (r k) in
       let xs = from i (n - i) in
       record {

@@ -15,7 +15,7 @@ use Rattle.lists.proofs.Members.{places_in}
 use Rattle.ticks.specs.Core.{pick}
 use Rattle.ticks.specs.Events.{to_serve, next_release, stretch}
 use Rattle.ticks.proofs.Service.{Counters, counters}
-use Rattle.ticks.proofs.Turns.{Reached, eventsLeft, reached-busy, served-for, waited, over, horizon_fits, to-serve}
+use Rattle.ticks.proofs.Turns.{Reached, events_left, reached_busy, served_for, waited, over, horizon_fits, to_serve_lem}
 use Rattle.edf.specs.declared.runs.Ended.{Ended}
 use Rattle.edf.specs.Parts.{at, owed_in, Lists, set_in, load_in, Fits, RanOut}
 
@@ -30,7 +30,7 @@ pub record Served (X : Lists) (v f : List ℕ) (b t p m : ℕ) : Type 0 where
   pub busy : b + m ≤ 1_128_000_000
   pub moment : t + m ≤ 1_128_000_000
   pub holds : Reached (load_in X) (set v p (get_or v p 0 + m)) (set f p (t + m)) (b + m) (t + m)
-  pub fewer : eventsLeft (load_in X) (t + m) (set v p (get_or v p 0 + m)) < eventsLeft (load_in X) t v
+  pub fewer : events_left (load_in X) (t + m) (set v p (get_or v p 0 + m)) < events_left (load_in X) t v
 
 module _ {X : Lists} {v f : List ℕ} {b t p u : ℕ} (E : Event X v f b t p u) where
   abbrev n : ℕ
@@ -40,31 +40,31 @@ module _ {X : Lists} {v f : List ℕ} {b t p u : ℕ} (E : Event X v f b t p u) 
   next_is = E.next ∙ rw E.fits.releases
 
   picks : (p < n → pick (load_in X) t v ≡ some p) × (n ≤ p → pick (load_in X) t v ≡ none)
-  picks = to-serve (load_in X) n t v (λ i m. places_in n i m) p E.serves
+  picks = to_serve_lem (load_in X) n t v (λ i m. places_in n i m) p E.serves
 
   counted : Counters (load_in X)
   counted = counters (set_in X) X.local X.asks E.fits.few
 
   -- The one to serve is owed what it has not got,
   pub owing : p < n → get_or v p 0 ≤ owed_in X.executions X.asks p
-  owing h = omega (arith, (served-for (load_in X) v f b t E.holds counted p (picks.0 h)).0)
+  owing h = omega (arith, (served_for (load_in X) v f b t E.holds counted p (picks.0 h)).0)
 
   -- and is served for a stretch;
   pub serves_on : (m : ℕ) → p < n → m ≡ stretch (owed_in X.executions X.asks p - get_or v p 0) t u → Served X v f b t p m
   serves_on m h e =
-      let w = served-for (load_in X) v f b t E.holds counted p (picks.0 h) in
+      let w = served_for (load_in X) v f b t E.holds counted p (picks.0 h) in
       let fits = horizon_fits (set_in X) X.local X.asks E.fits.few E.fits.ranges in
       rw (e, next_is)
       (record {
         room = omega (arith, w.0, E.fits.ranges p h);
-        busy = omega (arith, w.1.soon, reached-busy (load_in X) _ _ _ _ w.1);
+        busy = omega (arith, w.1.soon, reached_busy (load_in X) _ _ _ _ w.1);
         moment = omega (arith, w.1.soon);
         holds = w.1;
         fewer = w.2;
       })
 
   -- if there is none, the core waits for the next release,
-  pub waits_on : n ≤ p → u ≢ 0 → Reached (load_in X) v f b u × (eventsLeft (load_in X) u v < eventsLeft (load_in X) t v)
+  pub waits_on : n ≤ p → u ≢ 0 → Reached (load_in X) v f b u × (events_left (load_in X) u v < events_left (load_in X) t v)
   waits_on h z = rw next_is (waited (load_in X) v f b t E.holds (picks.1 h) (λ e. z (next_is ∙ e)))
 
   -- and if there is none of these either, all is served.

@@ -17,9 +17,9 @@ use Rattle.subjobs.specs.Sets.{Subjobs, size}
 use Rattle.subjobs.specs.Judging.{judgement}
 use Rattle.subjobs.specs.Faults.{Fit}
 use Rattle.ticks.specs.Core.{Load, after, ended}
-use Rattle.ticks.specs.Runs.{Run, horizon, finish, end, busyTicks, idleTicks, load, run_of, run}
+use Rattle.ticks.specs.Runs.{Run, horizon, finish, end, busy_ticks, idle_ticks, load, run_of, run}
 use Rattle.ticks.proofs.Service.{Counters, counters, lengths}
-use Rattle.ticks.proofs.Counted.{busy-done, done-horizon}
+use Rattle.ticks.proofs.Counted.{busy_done, done_horizon}
 use Rattle.ticks.proofs.Ends.{finish-owed, busy_owed, all_ticks}
 use Rattle.ticks.proofs.Ticks.{run_ticks}
 use Rattle.edf.specs.declared.Totals.{Totals}
@@ -38,19 +38,19 @@ not_above t e =
 
 module _ (rs cs qs : List ℕ) (e : Ended) (old : List ℕ) (t : Totals) where
   -- A refusal leaves the totals and the list as they were.
-  pub settled-refused :
+  pub settled_refused :
       above (added (read_off rs cs qs e) t) ≡ true
       → Settles rs cs qs e old t (record { answer = Refused reason.Totals; totals = t }) old
-  settled-refused a = record { gives = rw a; writes = rw a }
+  settled_refused a = record { gives = rw a; writes = rw a }
 
-  pub settled-ran :
+  pub settled_ran :
       above (added (read_off rs cs qs e) t) ≡ false
       → (m : ℕ) → m ≡ end_in cs qs e.finish
       → (new : List ℕ) → new ≡ map (finish_in rs cs qs e.finish) (places (length cs))
       → Settles rs cs qs e old t
       (record { answer = Ran (record { end = m }); totals = record { busy = t.busy + e.busy; idle = t.idle + (m - e.busy) } })
       new
-  settled-ran a m is new q = record { gives = rw (is, a); writes = rw a q }
+  settled_ran a m is new q = record { gives = rw (is, a); writes = rw a q }
 
 -- What is read off the core when all is served is the run.
 greatest_same :
@@ -68,28 +68,28 @@ module _ (L : Load) (K : Counters L) where
       greatest_same (ended L (horizon L)) (finish L) (filter U L.on)
       (λ i m. let u = (filter_in U L.on m).1 in sym (finish-owed L i (omega tests)))
 
-  busy_is : (after L (horizon L)).busy ≡ busyTicks L
-  busy_is = busy-done L K (horizon L) (done-horizon L K) ∙ sym (busy_owed L K)
+  busy_is : (after L (horizon L)).busy ≡ busy_ticks L
+  busy_is = busy_done L K (horizon L) (done_horizon L K) ∙ sym (busy_owed L K)
 
-  idle_is : end L - busyTicks L ≡ idleTicks L
+  idle_is : end L - busy_ticks L ≡ idle_ticks L
   idle_is = omega (arith, all_ticks L)
 
 -- The simulator's answer by what refusals 1 to 4 say.
 module _ (s : Subjobs) (ds asks : List ℕ) (t : Totals) (fs : List ℕ) where
-  pub simulated-refused :
+  pub simulated_refused :
       (why : Reason) → judgement s (further_lists s ds asks (length fs)) ≡ verdict.Refused why
       → Simulates s ds asks fs t (record { answer = Refused why; totals = t }) fs
   unfolding answer totals finishes
-  simulated-refused why e = record { gives = rw e; writes = rw e }
+  simulated_refused why e = record { gives = rw e; writes = rw e }
 
-  pub simulated-ran :
+  pub simulated_ran :
       judgement s (further_lists s ds asks (length fs)) ≡ verdict.Passed
       → (e : Ended) → read_off s.releases s.executions asks e ≡ run s ds asks
       → (got : Simulated) (new : List ℕ)
       → Settles s.releases s.executions asks e fs t got new
       → Simulates s ds asks fs t got new
   unfolding answer totals finishes
-  simulated-ran p e is got new S =
+  simulated_ran p e is got new S =
       let g = S.gives ∙ ap (λ (r : Run). settled r t) is in
       let w = S.writes ∙ ap (λ (r : Run). written r t fs) is in
       test (above (added (run s ds asks) t))

@@ -17,15 +17,15 @@ use Rattle.graph.specs.Answers.{critical, judgement, answer, results, Finds}
 use Rattle.graph.specs.Faults.{Sound}
 use Rattle.graph.specs.Faults as faults
 use Rattle.graph.specs.Parts.{Attained, Settled, Settling, Small}
-use Rattle.graph.proofs.Paths.{path-most}
-use Rattle.graph.proofs.Raising.{settled-acyclic, settled-heaviest}
-use Rattle.graph.proofs.Listed.{path-short, critical-heaviest, heaviest_one}
-use Rattle.graph.proofs.Judged.{sound, found-exactly, refused_exactly}
+use Rattle.graph.proofs.Paths.{path_most}
+use Rattle.graph.proofs.Raising.{settled_acyclic, settled_heaviest}
+use Rattle.graph.proofs.Listed.{path_short, critical_heaviest, heaviest_one}
+use Rattle.graph.proofs.Judged.{sound, found_exactly, refused_exactly}
 
 module _ (g : Graph) where
   -- Where no path comes back, no path weighs more than 127 arcs of 1,100,000.
   pub light : {n : ℕ} → Sound g n → (Cycle g → ⊥) → (i : ℕ) (p : List ℕ) → i < size g → Path g i p → weight (cost g) p ≤ 139_700_000
-  light s none i p b h = omega (arith, path-most g s i p h, path-short g s none i p b h, s.few.subjobs)
+  light s none i p b h = omega (arith, path_most g s i p h, path_short g s none i p b h, s.few.subjobs)
 
   pub settling : (n : ℕ) (d : List ℕ) → judgement g n ≡ Passed → d ≡ replicate 128 0 → Settling g d
   settling n d e z =
@@ -45,20 +45,20 @@ module _ (g : Graph) where
     unfolding results
     refused r e = (sym e, rw e)
 
-    pub refused-first : (r : Reason) → judgement g (length out) ≡ Refused r → Finds g out (Refused r) out
+    pub refused_first : (r : Reason) → judgement g (length out) ≡ Refused r → Finds g out (Refused r) out
     unfolding answer
-    refused-first r e = refused r (rw e)
+    refused_first r e = refused r (rw e)
 
     module _ (passed : judgement g (length out) ≡ Passed) where
-      pub refused-cycle : Cycle g → Finds g out (Refused reasons.Cycle) out
-      refused-cycle c = refused reasons.Cycle ((refused_exactly g (length out) reasons.Cycle).1 (faults.cycle (sound g (length out) passed) c))
+      pub refused_cycle : Cycle g → Finds g out (Refused reasons.Cycle) out
+      refused_cycle c = refused reasons.Cycle ((refused_exactly g (length out) reasons.Cycle).1 (faults.cycle (sound g (length out) passed) c))
 
       module _ (d : List ℕ) (A : Attained g d) (S : Settled g d) where
         s : Sound g (length out)
         s = sound g (length out) passed
 
         none : Cycle g → ⊥
-        none = settled-acyclic g d S s
+        none = settled_acyclic g d S s
 
         pub small : size g ≤ length d → Small d (length out)
         small room =
@@ -70,11 +70,11 @@ module _ (g : Graph) where
 
         pub found : size g ≤ length d → Finds g out Passed (take (length out) d)
         found room =
-            let e : answer g (length out) ≡ Passed = (found-exactly g (length out)).1 (record { sound = s; acyclic = none }) in
+            let e : answer g (length out) ≡ Passed = (found_exactly g (length out)).1 (record { sound = s; acyclic = none }) in
             let z = s.lengths.results in (
               sym e,
               rw z
-                  (take-map (critical g) d (size g) room (λ i h. heaviest_one g i _ _ (settled-heaviest g d S A i h) (critical-heaviest g s none i h)))
+                  (take-map (critical g) d (size g) room (λ i h. heaviest_one g i _ _ (settled_heaviest g d S A i h) (critical_heaviest g s none i h)))
                   ∙ sym (given e refl),
             )
 
@@ -87,5 +87,5 @@ module _ (g : Graph) where
             ap length (given e refl)
             ∙ length-map (places (size g)) (critical g)
             ∙ from-length 0 (size g)
-            ∙ sym ((found-exactly g (length out)).0 e).sound.lengths.results
+            ∙ sym ((found_exactly g (length out)).0 e).sound.lengths.results
         by (Refused r) e = ap length (sym (refused r e).1)

@@ -16,14 +16,14 @@ use Rattle.subjobs.specs.declared.Reason.{Reason}
 use Rattle.subjobs.specs.declared.Reason.TheVariants.{Lengths, TooMany, Range, Stray, Cycle}
 use Rattle.subjobs.specs.Reasons.{place_of}
 use Rattle.subjobs.specs.Judging.{unless, first_refusal}
-use Rattle.subjobs.proofs.Exactly.{Exactly, passing, refusing, exactly-so, exactly_test, exactly_unless, exactly_then, exactly_or, exactly-first}
+use Rattle.subjobs.proofs.Exactly.{Exactly, passing, refusing, exactly_so, exactly_test, exactly_unless, exactly_then, exactly_or, exactly_first}
 use Rattle.subjobs.proofs.Fit.{at_most, between}
 use Rattle.graph.specs.Graphs.{Graph, size, arcs, execution, before, after, hop}
 use Rattle.graph.specs.Graphs as graphs
 use Rattle.graph.specs.Answers.{one_length, few, execution_at, hop_at, arc_at, cyclic, judgement, answer}
 use Rattle.graph.specs.Faults.{OneLength, Few, InRange, HopInRange, Named, All, Sound, Fit, Faulty, lengths, many, range, delay, stray, cycle}
 use Rattle.graph.specs.Parts.{at, within, First}
-use Rattle.graph.proofs.Listed.{cyclic_so, cycle-seen}
+use Rattle.graph.proofs.Listed.{cyclic_so, cycle_seen}
 
 -- The ranges by their last number.
 below_next : (m x : ℕ) → ltb x (m + 1) ≡ leb x m
@@ -37,7 +37,7 @@ first_same e F =
 -- which is what a search refuses for.
 module _ (P : ℕ → Bool) (w : ℕ → Reason) {n k : ℕ} (F : First P n k) where
   searched : Exactly (first_refusal (λ i. unless (P i) (w i)) n) ((j : ℕ) → j < n → P j ≡ true) (λ r. (p : ℕ) × (p < n) × ((j : ℕ) → j < p → P j ≡ true) × ((r ≡ w p) × (P p ≡ true → ⊥)))
-  searched = exactly-first _ _ _ (λ i. exactly_test (P i) (w i) (λ e. e) (λ e. e)) n
+  searched = exactly_first _ _ _ (λ i. exactly_test (P i) (w i) (λ e. e) (λ e. e)) n
 
   first_found : k < n → first_refusal (λ i. unless (P i) (w i)) n ≡ Refused (w k)
   first_found h = searched.refuses (w k) (k, h, F.held, (refl, λ e. clash e (F.fails h)))
@@ -79,28 +79,28 @@ module _ (g : Graph) {k : ℕ} where
     ranged : First (λ i. leb 1 (execution g i) && leb (execution g i) 1_000_000) (size g) k
     ranged = first_same (λ i. rw (below_next 1_000_000 (execution g i))) F
 
-    pub execution-out : k < size g → first_refusal (execution_at g) (size g) ≡ Refused (Range k fields.Execution)
-    execution-out = first_found _ (λ i. Range i fields.Execution) ranged
+    pub execution_out : k < size g → first_refusal (execution_at g) (size g) ≡ Refused (Range k fields.Execution)
+    execution_out = first_found _ (λ i. Range i fields.Execution) ranged
 
-    pub executions-in : size g ≤ k → first_refusal (execution_at g) (size g) ≡ Passed
-    executions-in = first_none _ (λ i. Range i fields.Execution) ranged
+    pub executions_in : size g ≤ k → first_refusal (execution_at g) (size g) ≡ Passed
+    executions_in = first_none _ (λ i. Range i fields.Execution) ranged
 
   module _ (l : length g.hops ≡ arcs g) (F : First (λ a. within 0 100_001 (hop g a)) (length g.hops) k) where
     delayed : First (λ a. leb (hop g a) 100_000) (arcs g) k
     delayed = rw l at (first_same {Q = λ a. leb (hop g a) 100_000} (λ a. rw (le-leb 0 (hop g a) (omega arith), below_next 100_000 (hop g a))) F)
 
-    pub hop-out : k < arcs g → first_refusal (hop_at g) (arcs g) ≡ Refused (Range k fields.Hop)
-    hop-out = first_found _ (λ a. Range a fields.Hop) delayed
+    pub hop_out : k < arcs g → first_refusal (hop_at g) (arcs g) ≡ Refused (Range k fields.Hop)
+    hop_out = first_found _ (λ a. Range a fields.Hop) delayed
 
-    pub hops-in : arcs g ≤ k → first_refusal (hop_at g) (arcs g) ≡ Passed
-    hops-in = first_none _ (λ a. Range a fields.Hop) delayed
+    pub hops_in : arcs g ≤ k → first_refusal (hop_at g) (arcs g) ≡ Passed
+    hops_in = first_none _ (λ a. Range a fields.Hop) delayed
 
   module _ (F : First (λ a. ltb (before g a) (size g) && ltb (after g a) (size g)) (arcs g) k) where
-    pub arc-out : k < arcs g → first_refusal (arc_at g) (arcs g) ≡ Refused (Stray k)
-    arc-out = first_found _ Stray F
+    pub arc_out : k < arcs g → first_refusal (arc_at g) (arcs g) ≡ Refused (Stray k)
+    arc_out = first_found _ Stray F
 
-    pub arcs-in : arcs g ≤ k → first_refusal (arc_at g) (arcs g) ≡ Passed
-    arcs-in = first_none _ Stray F
+    pub arcs_in : arcs g ≤ k → first_refusal (arc_at g) (arcs g) ≡ Passed
+    arcs_in = first_none _ Stray F
 
 module _ (g : Graph) where
   -- one check of all numbers below another
@@ -108,14 +108,14 @@ module _ (g : Graph) where
   Out P w n r = (p : ℕ) × (p < n) × All P p × ((r ≡ w p) × (P p → ⊥))
 
   executions_exactly : Exactly (first_refusal (execution_at g) (size g)) (All (InRange g) (size g)) (Out (InRange g) (λ p. Range p fields.Execution) (size g))
-  executions_exactly = exactly-first _ _ _ (λ i. between 1 (execution g i) 1_000_000 (Range i fields.Execution)) (size g)
+  executions_exactly = exactly_first _ _ _ (λ i. between 1 (execution g i) 1_000_000 (Range i fields.Execution)) (size g)
 
   hops_exactly : Exactly (first_refusal (hop_at g) (arcs g)) (All (HopInRange g) (arcs g)) (Out (HopInRange g) (λ a. Range a fields.Hop) (arcs g))
-  hops_exactly = exactly-first _ _ _ (λ a. at_most (hop g a) 100_000 (Range a fields.Hop)) (arcs g)
+  hops_exactly = exactly_first _ _ _ (λ a. at_most (hop g a) 100_000 (Range a fields.Hop)) (arcs g)
 
   arcs_exactly : Exactly (first_refusal (arc_at g) (arcs g)) (All (Named g) (arcs g)) (Out (Named g) Stray (arcs g))
   arcs_exactly =
-      exactly-first _ _ _
+      exactly_first _ _ _
       (λ a.
       exactly_test (ltb (before g a) (size g) && ltb (after g a) (size g)) (Stray a)
       (λ e. let b = both e in (ltb-true _ _ b.0, ltb-true _ _ b.1))
@@ -152,10 +152,10 @@ module _ (g : Graph) where
         × (Out (HopInRange g) (λ a. Range a fields.Hop) (arcs g) r
         ⊎ (All (HopInRange g) (arcs g) × Out (Named g) Stray (arcs g) r)))))))
 
-    sound-exactly : Exactly (judgement g n) (Sound g n) Unsound
+    sound_exactly : Exactly (judgement g n) (Sound g n) Unsound
     unfolding judgement
-    sound-exactly =
-        exactly-so
+    sound_exactly =
+        exactly_so
         (exactly_or lengths_exactly (exactly_or few_exactly (exactly_or executions_exactly (exactly_or hops_exactly arcs_exactly))))
         (λ h. record { lengths = h.0; few = h.1.0; executions = h.1.1.0; hops = h.1.1.1.0; named = h.1.1.1.1 })
         (λ s. (s.lengths, (s.few, (s.executions, (s.hops, s.named)))))
@@ -163,17 +163,17 @@ module _ (g : Graph) where
         (λ r q. q)
 
     pub sound : judgement g n ≡ Passed → Sound g n
-    sound = (passing sound-exactly).0
+    sound = (passing sound_exactly).0
 
     -- and 21
     pub answered : Exactly (answer g n) (Fit g n) (Faulty g n)
     unfolding answer
     answered =
-        exactly-so
-        (exactly_then sound-exactly
+        exactly_so
+        (exactly_then sound_exactly
         (λ s.
         exactly_unless (not (cyclic g)) Cycle
-        (λ e c. clash (cycle-seen g s c) (not-true (cyclic g) e))
+        (λ e c. clash (cycle_seen g s c) (not-true (cyclic g) e))
         (λ e. cyclic_so g (not-false (cyclic g) e))
         (λ n c. n c)))
         (λ h. record { sound = h.0; acyclic = h.1 })
@@ -200,20 +200,20 @@ module _ (g : Graph) where
         faulty _ (stray a l m c d b all n) = inl (inr (l, inr (m, inr (c, inr (d, (a, b, all, (refl, n)))))))
         faulty _ (cycle s c) = inr (s, (refl, c))
 
-    pub found-exactly : (answer g n ≡ Passed) ↔ Fit g n
-    found-exactly = passing answered
+    pub found_exactly : (answer g n ≡ Passed) ↔ Fit g n
+    found_exactly = passing answered
 
     pub refused_exactly : (r : Reason) → (answer g n ≡ Refused r) ↔ Faulty g n r
     refused_exactly = refusing answered
 
     -- A place or an arc that is reported is one of 1,024.
     pub refused_within : (r : Reason) → answer g n ≡ Refused r → place_of r < 1_024
-    refused_within r e = within-arcs ((refused_exactly r).0 e)
+    refused_within r e = within_arcs ((refused_exactly r).0 e)
       where
-        within-arcs : {r : Reason} → Faulty g n r → place_of r < 1_024
-        within-arcs (lengths w) = omega arith
-        within-arcs (many l w) = omega arith
-        within-arcs (range p l m b all w) = omega (arith, m.subjobs)
-        within-arcs (delay a l m c b all w) = omega (arith, m.arcs)
-        within-arcs (stray a l m c d b all w) = omega (arith, m.arcs)
-        within-arcs (cycle s c) = omega arith
+        within_arcs : {r : Reason} → Faulty g n r → place_of r < 1_024
+        within_arcs (lengths w) = omega arith
+        within_arcs (many l w) = omega arith
+        within_arcs (range p l m b all w) = omega (arith, m.subjobs)
+        within_arcs (delay a l m c b all w) = omega (arith, m.arcs)
+        within_arcs (stray a l m c d b all w) = omega (arith, m.arcs)
+        within_arcs (cycle s c) = omega arith

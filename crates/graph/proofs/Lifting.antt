@@ -81,8 +81,8 @@ module _ (g : Graph) where
 
   module _ {d₀ d : List ℕ} {k : ℕ} (G : Going g d₀ d k) where
     -- a step that raises, and one that does not
-    pub going-lift : (j : ℕ) {d' : List ℕ} {place : ℕ} → j ≡ k + 1 → Lifted g d d' place → Going g d₀ d' j
-    going-lift j e L =
+    pub going_lift : (j : ℕ) {d' : List ℕ} {place : ℕ} → j ≡ k + 1 → Lifted g d d' place → Going g d₀ d' j
+    going_lift j e L =
         record {
           room = L.room ∙ G.room;
           attained = L.attained;
@@ -95,8 +95,8 @@ module _ (g : Graph) where
         record { room = G.room; attained = G.attained; grown = G.grown; more = λ b m i. omega (arith, G.more b m i) }
 
     -- what the next arc is handed
-    pub going-arc : Guessing g d₀ → k ≤ 1_152 → (a : ℕ) → a < arcs g → Lifting g d a
-    going-arc S few a h =
+    pub going_arc : Guessing g d₀ → k ≤ 1_152 → (a : ℕ) → a < arcs g → Lifting g d a
+    going_arc S few a h =
         let r : size g ≤ length d = omega (arith, S.room, G.room) in
         record {
           asking = asking g d a S.sound r (λ i. omega (arith, G.more (290 * most) S.bounded i)) h;
@@ -104,6 +104,6 @@ module _ (g : Graph) where
           attained = G.attained;
         }
 
-    pub going-over : k ≤ 1_152 → Guessed g d₀ d
-    going-over h =
+    pub going_over : k ≤ 1_152 → Guessed g d₀ d
+    going_over h =
         record { room = G.room; attained = G.attained; grown = G.grown; more = λ b m i. omega (arith, G.more b m i) }

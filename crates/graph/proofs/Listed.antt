@@ -18,7 +18,7 @@ use Rattle.lists.proofs.Sums.{greatest_ge, greatest_in}
 use Rattle.graph.specs.Graphs.{Graph, size, arcs, before, after, cost, Path, Cycle, Heaviest}
 use Rattle.graph.specs.Faults.{Sound}
 use Rattle.graph.specs.Answers.{leaving, paths, critical, comes_back, any_of, cyclic}
-use Rattle.graph.proofs.Paths.{Returns, long-returns}
+use Rattle.graph.proofs.Paths.{Returns, long_returns}
 
 -- What stands in one of many lists stands in them joined, and back.
 in_joined : {p : List ℕ} (f : ℕ → List (List ℕ)) (xs : List ℕ) {a : ℕ} → Memᴰ a xs → Memᴰ p (f a) → Memᴰ p (flat_map f xs)
@@ -70,17 +70,17 @@ module _ (g : Graph) where
       (Memᴰ.map (λ q. a ∷ q) (in_paths k (after g a) p h.2 (omega arith))))
 
   -- Some path of a list passes a test, or none does.
-  any-cases :
+  any_cases :
       (P : List ℕ → Bool) (ps : List (List ℕ))
       → ((any_of P ps ≡ false) × ((p : List ℕ) → Memᴰ p ps → P p ≡ false))
       ⊎ ((any_of P ps ≡ true) × (p : List ℕ) × Memᴰ p ps × (P p ≡ true))
   unfolding any_of
-  any-cases P [] = inl (refl, λ p m. absurd (Memᴰ.not-nil m))
-  any-cases P (q ∷ ps) =
+  any_cases P [] = inl (refl, λ p m. absurd (Memᴰ.not-nil m))
+  any_cases P (q ∷ ps) =
       test (P q)
       (λ e. inr (rw e, q, Memᴰ.head refl, e))
       (λ e.
-      split (any-cases P ps)
+      split (any_cases P ps)
       (λ h. inl (rw e h.0, λ p m. split (Memᴰ.cases_cons m) (λ d. rw d e) (h.1 p)))
       (λ h. inr (rw e h.0, h.1, Memᴰ.tail h.2, h.3)))
 
@@ -94,47 +94,47 @@ module _ (g : Graph) where
       split (some_cases (λ i. any_of (comes_back g i) (paths g (size g) i)) (size g))
       (λ h. clash e h.0)
       (λ h.
-      split (any-cases (comes_back g h.1) (paths g (size g) h.1))
+      split (any_cases (comes_back g h.1) (paths g (size g) h.1))
       (λ q. clash h.3 q.0)
       (λ q. comes_back_lem h.1 q.1 q.3 (paths_in (size g) h.1 q.1 q.2).0))
 
   module _ {n : ℕ} (s : Sound g n) where
     -- A cycle of at most as many arcs as there are places is seen,
-    returns-seen : Returns g (size g) → cyclic g ≡ true
+    returns_seen : Returns g (size g) → cyclic g ≡ true
     unfolding cyclic
-    returns-seen (i, [], n, h, e, l) = absurd (n refl)
-    returns-seen (i, a ∷ p, n, h, e, l) =
+    returns_seen (i, [], n, h, e, l) = absurd (n refl)
+    returns_seen (i, a ∷ p, n, h, e, l) =
         split (some_cases (λ i. any_of (comes_back g i) (paths g (size g) i)) (size g))
         (λ w.
         let b : i < size g = omega (arith, (s.named a h.0).0, h.1) in
-        split (any-cases (comes_back g i) (paths g (size g) i))
+        split (any_cases (comes_back g i) (paths g (size g) i))
         (λ q. clash (eq-eqb _ _ e) (q.1 (a ∷ p) (in_paths (size g) i (a ∷ p) h l)))
         (λ q. clash q.0 (w.1 i b)))
         (λ w. w.0)
 
     -- and a longer one has such a one in it.
-    pub cycle-seen : Cycle g → cyclic g ≡ true
-    cycle-seen (i, [], n, h, e) = absurd (n refl)
-    cycle-seen (i, a ∷ p, n, h, e) =
+    pub cycle_seen : Cycle g → cyclic g ≡ true
+    cycle_seen (i, [], n, h, e) = absurd (n refl)
+    cycle_seen (i, a ∷ p, n, h, e) =
         test (leb (length (a ∷ p)) (size g))
-        (λ l. returns-seen (i, a ∷ p, n, h, e, omega tests))
-        (λ l. returns-seen (long-returns g s i (a ∷ p) (omega (arith, (s.named a h.0).0, h.1)) h (omega tests)))
+        (λ l. returns_seen (i, a ∷ p, n, h, e, omega tests))
+        (λ l. returns_seen (long_returns g s i (a ∷ p) (omega (arith, (s.named a h.0).0, h.1)) h (omega tests)))
 
     module _ (acyclic : Cycle g → ⊥) where
       -- Where no path comes back, none has as many arcs as there are places.
-      pub path-short : (i : ℕ) (p : List ℕ) → i < size g → Path g i p → length p < size g
-      path-short i p b h =
+      pub path_short : (i : ℕ) (p : List ℕ) → i < size g → Path g i p → length p < size g
+      path_short i p b h =
           test (ltb (length p) (size g))
           (λ e. omega tests)
-          (λ e. let w = long-returns g s i p b h (omega tests) in absurd (acyclic (w.0, w.1, w.2, w.3, w.4)))
+          (λ e. let w = long_returns g s i p b h (omega tests) in absurd (acyclic (w.0, w.1, w.2, w.3, w.4)))
 
       -- The greatest weight in the list is that of some path, and no path weighs more.
-      pub critical-heaviest : (i : ℕ) → i < size g → Heaviest g i (critical g i)
-      critical-heaviest i b =
+      pub critical_heaviest : (i : ℕ) → i < size g → Heaviest g i (critical g i)
+      critical_heaviest i b =
           let ps = paths g (size g) i in
           let ws = map (weight (cost g)) ps in
           let seen : (p : List ℕ) → Path g i p → Memᴰ (weight (cost g) p) ws =
-          λ p h. Memᴰ.map (weight (cost g)) (in_paths (size g) i p h (omega (arith, path-short i p b h)))
+          λ p h. Memᴰ.map (weight (cost g)) (in_paths (size g) i p h (omega (arith, path_short i p b h)))
           in
           let top = greatest_in (λ w. w) ws (in_filled (seen [] tt)) in
           let q = Memᴰ.of_map (weight (cost g)) ps top.1 in

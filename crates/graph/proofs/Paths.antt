@@ -70,8 +70,8 @@ module _ (g : Graph) where
     inside i (a ∷ p) b h m = in_cons m (λ e. omega arith) (λ t. inside (after g a) p (s.named a h.0).1 h.2 t)
 
     -- A path with as many arcs as there are places comes back somewhere.
-    pub long-returns : (i : ℕ) (p : List ℕ) → i < size g → Path g i p → size g ≤ length p → Returns g (size g)
-    long-returns i p b h l =
+    pub long_returns : (i : ℕ) (p : List ℕ) → i < size g → Path g i p → size g ≤ length p → Returns g (size g)
+    long_returns i p b h l =
         let q = front i (size g) p h l in
         split (back_or_not i q.0 q.1)
         (λ w. (w.0, w.1, w.2, w.3, w.4, omega (arith, w.5, q.2)))
@@ -85,18 +85,18 @@ module _ (g : Graph) where
         )))
 
     -- An arc adds at least 1 and at most 1,100,000.
-    pub cost-least : (a : ℕ) → a < arcs g → 1 ≤ cost g a
-    cost-least a h = omega (arith, (s.executions (after g a) (s.named a h).1).0)
+    pub cost_least : (a : ℕ) → a < arcs g → 1 ≤ cost g a
+    cost_least a h = omega (arith, (s.executions (after g a) (s.named a h).1).0)
 
-    pub cost-most : (a : ℕ) → a < arcs g → cost g a ≤ 1_100_000
-    cost-most a h = omega (arith, (s.executions (after g a) (s.named a h).1).1, s.hops a h)
+    pub cost_most : (a : ℕ) → a < arcs g → cost g a ≤ 1_100_000
+    cost_most a h = omega (arith, (s.executions (after g a) (s.named a h).1).1, s.hops a h)
 
-    pub path-least : (i : ℕ) (p : List ℕ) → Path g i p → length p ≤ weight (cost g) p
-    path-least i [] h = omega (arith, weight-nil (cost g))
-    path-least i (a ∷ p) h =
-        omega (arith, weight-cons (cost g) a p, cost-least a h.0, path-least (after g a) p h.2)
+    pub path_least : (i : ℕ) (p : List ℕ) → Path g i p → length p ≤ weight (cost g) p
+    path_least i [] h = omega (arith, weight-nil (cost g))
+    path_least i (a ∷ p) h =
+        omega (arith, weight-cons (cost g) a p, cost_least a h.0, path_least (after g a) p h.2)
 
-    pub path-most : (i : ℕ) (p : List ℕ) → Path g i p → weight (cost g) p ≤ length p * 1_100_000
-    path-most i [] h = omega (arith, weight-nil (cost g))
-    path-most i (a ∷ p) h =
-        omega (arith, weight-cons (cost g) a p, cost-most a h.0, path-most (after g a) p h.2)
+    pub path_most : (i : ℕ) (p : List ℕ) → Path g i p → weight (cost g) p ≤ length p * 1_100_000
+    path_most i [] h = omega (arith, weight-nil (cost g))
+    path_most i (a ∷ p) h =
+        omega (arith, weight-cons (cost g) a p, cost_most a h.0, path_most (after g a) p h.2)

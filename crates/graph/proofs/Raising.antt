@@ -15,7 +15,7 @@ use Rattle.graph.specs.declared.rounds.Ask.{Ask}
 use Rattle.graph.specs.Graphs.{Graph, size, arcs, before, after, cost, Path, end, Cycle, Heaviest}
 use Rattle.graph.specs.Faults.{Sound}
 use Rattle.graph.specs.Parts.{at, ask, Attained, Settled, Rises, AtMost, most, arc_at, Asking, Asks, Rounding, Rounded, Settling, Guessed}
-use Rattle.graph.proofs.Paths.{Returns, long-returns, cost-most, path-least}
+use Rattle.graph.proofs.Paths.{Returns, long_returns, cost_most, path_least}
 
 -- A round looks at each arc: what stands where an arc does is looked at when the arc is counted.
 arc_twice : (t m a : ℕ) → a < m → (arc_at t m a < m) × (arc_at t m (arc_at t m a) ≡ a)
@@ -43,14 +43,14 @@ module _ (g : Graph) where
   bounds_none d i [] h l = omega (arith, weight-nil (cost g))
   bounds_none d i (a ∷ p) h l = absurd (omega arith)
 
-  pub bounds-more :
+  pub bounds_more :
       (k : ℕ) (d d' : List ℕ)
       → Bounds k d
       → ((a : ℕ) → a < arcs g → ask g d a ≤ at d' (before g a))
       → Bounds (k + 1) d'
   unfolding Bounds
-  bounds-more k d d' B raised i [] h l = omega (arith, weight-nil (cost g))
-  bounds-more k d d' B raised i (a ∷ p) h l =
+  bounds_more k d d' B raised i [] h l = omega (arith, weight-nil (cost g))
+  bounds_more k d d' B raised i (a ∷ p) h l =
       omega (
         arith,
         weight-cons (cost g) a p,
@@ -109,9 +109,9 @@ module _ (g : Graph) where
 
   module _ {d₀ d : List ℕ} {t k : ℕ} {rose : Bool} (G : Going d₀ d t k rose) where
     -- The value is as great as the arc asks.
-    pub going-kept :
+    pub going_kept :
         k < arcs g → ask g d (arc_at t (arcs g) k) ≤ at d (before g (arc_at t (arcs g) k)) → Going d₀ d t (k + 1) rose
-    going-kept h le =
+    going_kept h le =
         let a = arc_at t (arcs g) k in
         record {
           room = G.room;
@@ -128,11 +128,11 @@ module _ (g : Graph) where
         }
 
     -- It is raised to what the arc asks.
-    pub going-raised :
+    pub going_raised :
         (n : ℕ) → Sound g n → size g ≤ length d → k < arcs g
         → at d (before g (arc_at t (arcs g) k)) < ask g d (arc_at t (arcs g) k)
         → Going d₀ (set d (before g (arc_at t (arcs g) k)) (ask g d (arc_at t (arcs g) k))) t (k + 1) true
-    going-raised n s room h lt =
+    going_raised n s room h lt =
         let a = arc_at t (arcs g) k in
         let in-arcs = (arc_twice t (arcs g) k h).0 in
         let named = s.named a in-arcs in
@@ -147,7 +147,7 @@ module _ (g : Graph) where
           bounded =
               λ i.
               set_cases d (before g a) v i (λ (w : ℕ). w ≤ (2 * t + 1) * most + (k + 1) * 1_100_000) b
-              (λ e. omega (arith, cost-most g s a in-arcs, G.bounded (after g a)))
+              (λ e. omega (arith, cost_most g s a in-arcs, G.bounded (after g a)))
               (omega (arith, G.bounded i));
           grown = λ i. omega (arith, G.grown i, up i);
           raised =
@@ -169,12 +169,12 @@ module _ (g : Graph) where
       value : r.value ≡ ask g d (arc_at t (arcs g) k)
       value = A.value ∙ ap (ask g d) e
 
-      pub going-stays : r.value ≤ at d r.before → Going d₀ d t (k + 1) rose
-      going-stays le = going-kept h (rw (start, value) at le)
+      pub going_stays : r.value ≤ at d r.before → Going d₀ d t (k + 1) rose
+      going_stays le = going_kept h (rw (start, value) at le)
 
-      pub going-up :
+      pub going_up :
           {n : ℕ} → Sound g n → size g ≤ length d → at d r.before < r.value → Going d₀ (set d r.before r.value) t (k + 1) true
-      going-up {n} s room lt = rw (start, value) (going-raised n s room h (rw (start, value) at lt))
+      going_up {n} s room lt = rw (start, value) (going_raised n s room h (rw (start, value) at lt))
 
     -- All arcs are looked at.
     pub going_done : arcs g ≤ 1_024 → k ≡ arcs g → Rounded g d₀ d t rose
@@ -201,14 +201,14 @@ module _ (g : Graph) where
 
   module _ (d : List ℕ) (S : Settled g d) where
     -- So none comes back,
-    pub settled-acyclic : {n : ℕ} → Sound g n → Cycle g → ⊥
-    settled-acyclic s (i, [], n, h, e) = n refl
-    settled-acyclic s (i, a ∷ p, n, h, e) =
-        omega (arith, falls d S i (a ∷ p) h, path-least g s i (a ∷ p) h, ap (at d) e)
+    pub settled_acyclic : {n : ℕ} → Sound g n → Cycle g → ⊥
+    settled_acyclic s (i, [], n, h, e) = n refl
+    settled_acyclic s (i, a ∷ p, n, h, e) =
+        omega (arith, falls d S i (a ∷ p) h, path_least g s i (a ∷ p) h, ap (at d) e)
 
     -- and the values are the greatest weights.
-    pub settled-heaviest : Attained g d → (i : ℕ) → i < size g → Heaviest g i (at d i)
-    settled-heaviest A i h = (A i h, λ p q. omega (arith, falls d S i p q))
+    pub settled_heaviest : Attained g d → (i : ℕ) → i < size g → Heaviest g i (at d i)
+    settled_heaviest A i h = (A i h, λ p q. omega (arith, falls d S i p q))
 
   -- An arc that asks for more than any path of as many arcs as there are places is the first of a path with more.
   pub rises_returns : {n k : ℕ} (d : List ℕ) → Sound g n → Attained g d → Bounds k d → size g ≤ k → Rises g d → Returns g (size g)
@@ -216,7 +216,7 @@ module _ (g : Graph) where
   rises_returns {k = k} d s A B few (a, h, lt) =
       let w = A (after g a) (s.named a h).1 in
       let p : Path g (before g a) (a ∷ w.0) = (h, refl, w.1) in
-      long-returns g s (before g a) (a ∷ w.0) (s.named a h).0 p
+      long_returns g s (before g a) (a ∷ w.0) (s.named a h).0 p
       (test (leb (length (a ∷ w.0)) k)
       (λ e.
       absurd
@@ -249,8 +249,8 @@ module _ (g : Graph) where
       }
 
   module _ {t : ℕ} {d : List ℕ} (s : Sound g (size g)) (T : Turning d t) (few : t ≤ size g) where
-    pub turning-round : Rounding g d t
-    turning-round =
+    pub turning_round : Rounding g d t
+    turning_round =
         record {
           sound = s;
           room = T.room;
@@ -260,13 +260,13 @@ module _ (g : Graph) where
         }
 
     -- The next round starts from what this one left, or from what was guessed on it.
-    pub turning-on : {d' d'' : List ℕ} → Rounded g d d' t true → Guessed g d' d'' → Turning d'' (t + 1)
-    turning-on {d'} {d''} R G =
+    pub turning_on : {d' d'' : List ℕ} → Rounded g d d' t true → Guessed g d' d'' → Turning d'' (t + 1)
+    turning_on {d'} {d''} R G =
         record {
           room = omega (arith, T.room, R.room, G.room);
           attained = G.attained;
           bounded = λ i. omega (arith, G.more ((2 * t + 2) * most) R.bounded i);
-          bounds = bounds-more t d d'' T.bounds (λ a h. omega (arith, R.raised a h, G.grown (before g a)));
+          bounds = bounds_more t d d'' T.bounds (λ a h. omega (arith, R.raised a h, G.grown (before g a)));
           turn = omega arith;
           cycle =
               λ h.

@@ -101,9 +101,9 @@ module _ (lt : ℕ → ℕ → Bool) (o : Order lt) where
       rw (← q) (in_cons m (λ e. ahead_first x xs (inl e)) (λ t. ahead_first x xs (inr t)))
 
   -- In a total order all others come after the one chosen; so the choice by the reversed order is the last of all.
-  pub chosen-before :
+  pub chosen_before :
       (xs : List ℕ) → Total lt xs → {b : ℕ} → choose lt xs ≡ some b → (i : ℕ) → Memᴰ i xs → (i ≡ b) ⊎ (lt b i ≡ true)
-  chosen-before xs tot {b} e i m =
+  chosen_before xs tot {b} e i m =
       test (lt b i) (λ h. inr h) (λ h. inl (tot i b m (chosen_in lt xs e) (chosen_first xs e m) h))
 
 -- Orders by a number, and one order after another.
@@ -202,7 +202,7 @@ last_chosen lt o xs tot n =
     (λ w. absurd (n w.0))
     (λ w. (
       w.0,
-      ((w.1, chosen-before (reversed lt) (reversed_order lt o) xs (λ i j a b p q. tot i j a b q p) w.2), w.2),
+      ((w.1, chosen_before (reversed lt) (reversed_order lt o) xs (λ i j a b p q. tot i j a b q p) w.2), w.2),
     ))
 
 -- Among places in list order the choice keeps the first of those that tie: it is the choice by the order and then by place.
@@ -238,7 +238,7 @@ choose_place lt (suc n) = ap some (ahead_place lt 0 1 n (omega arith))
 pub chosen_earliest : (lt : ℕ → ℕ → Bool) → Order lt → (n b i : ℕ) → choose lt (places n) ≡ some b → i < n → i < b → lt b i ≡ true
 chosen_earliest lt o n b i e k h =
     split
-    (chosen-before (lex lt (by (λ j. j))) (lex_order lt (by (λ j. j)) o (by_order (λ j. j))) (places n)
+    (chosen_before (lex lt (by (λ j. j))) (lex_order lt (by (λ j. j)) o (by_order (λ j. j))) (places n)
     (lex_total lt (by (λ j. j)) o (places n) (λ u v p q f g. omega tests))
     (sym (choose_place lt n) ∙ e) i (in_from 0 n (omega arith) (omega arith)))
     (λ q. absurd (omega arith))

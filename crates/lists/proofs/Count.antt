@@ -32,11 +32,11 @@ module _ (P : ℕ → Bool) where
     one_less : suc (n - 1) ≡ n
     one_less = omega arith
 
-    pub some-last : P (n - 1) ≡ true → some P n ≡ true
-    some-last e = rw one_less at (last_yes (n - 1) 0 (rw (zero-add (n - 1)) e))
+    pub some_last : P (n - 1) ≡ true → some P n ≡ true
+    some_last e = rw one_less at (last_yes (n - 1) 0 (rw (zero-add (n - 1)) e))
 
-    pub some-but-last : P (n - 1) ≡ false → some P n ≡ some P (n - 1)
-    some-but-last e = rw one_less at (last_no (n - 1) 0 (rw (zero-add (n - 1)) e))
+    pub some_but_last : P (n - 1) ≡ false → some P n ≡ some P (n - 1)
+    some_but_last e = rw one_less at (last_no (n - 1) 0 (rw (zero-add (n - 1)) e))
 
   pub some_none : (n : ℕ) → n ≤ 0 → some P n ≡ false
   unfolding some_from

@@ -68,8 +68,8 @@ module _ (π : ℕ → ℕ) where
 
   module _ (xs ys : List ℕ) (e : Moved π xs ys) where
     -- A subset of ys is a subset of xs, moved.
-    pub moved-filter : (U : ℕ → Bool) → Moved π (filter (λ i. U (π i)) xs) (filter U ys)
-    moved-filter U f =
+    pub moved_filter : (U : ℕ → Bool) → Moved π (filter (λ i. U (π i)) xs) (filter U ys)
+    moved_filter U f =
         weight_picked (λ i. f (π i)) (λ i. U (π i)) xs ∙ e (λ i. cond (U i) (f i) 0) ∙ sym (weight_picked f U ys)
 
     -- Each of xs goes to one of ys.
@@ -81,46 +81,46 @@ module _ (π : ℕ → ℕ) where
         Memᴰ.cast (sym (one_is (π i) w.0 w.2)) w.1
 
     -- Each of ys comes from one of xs.
-    pub moved-from : {j : ℕ} → Memᴰ j ys → (i : ℕ) × Memᴰ i xs × (π i ≡ j)
-    moved-from {j} m =
+    pub moved_from : {j : ℕ} → Memᴰ j ys → (i : ℕ) × Memᴰ i xs × (π i ≡ j)
+    moved_from {j} m =
         let w = weight_some (λ i. one j (π i)) xs (omega (arith, one_same j, weight_in (one j) ys m, e (one j))) in
         (w.0, w.1, one_is j (π w.0) w.2)
 
     -- One is empty exactly if the other is.
-    pub moved-filled : xs ≢ [] → ys ≢ []
-    moved-filled n = in_filled (moved_in (filled xs n).1)
+    pub moved_filled : xs ≢ [] → ys ≢ []
+    moved_filled n = in_filled (moved_in (filled xs n).1)
 
-    pub filled-moved : ys ≢ [] → xs ≢ []
-    filled-moved n = in_filled (moved-from (filled ys n).1).1
+    pub filled_moved : ys ≢ [] → xs ≢ []
+    filled_moved n = in_filled (moved_from (filled ys n).1).1
 
-    pub moved-nil : xs ≡ [] → ys ≡ []
-    moved-nil q = split (or_filled ys) (λ y. y) (λ n. absurd (filled-moved n q))
+    pub moved_nil : xs ≡ [] → ys ≡ []
+    moved_nil q = split (or_filled ys) (λ y. y) (λ n. absurd (filled_moved n q))
 
     -- Functions that agree along π have the same sum, least and greatest.
     module _ (f g : ℕ → ℕ) (same : (i : ℕ) → Memᴰ i xs → f i ≡ g (π i)) where
-      pub moved-weight : weight f xs ≡ weight g ys
-      moved-weight = weight_cong f (λ i. g (π i)) xs same ∙ e g
+      pub moved_weight : weight f xs ≡ weight g ys
+      moved_weight = weight_cong f (λ i. g (π i)) xs same ∙ e g
 
-      pub moved-least : least f xs ≡ least g ys
+      pub moved_least : least f xs ≡ least g ys
       unfolding least
-      moved-least =
+      moved_least =
           split (or_filled xs)
-          (λ q. rw (q, moved-nil q))
+          (λ q. rw (q, moved_nil q))
           (λ n.
           omega (
             arith,
             least_most f (least g ys) xs n (λ i m. omega (arith, same i m, least_le g ys (moved_in m))),
-            least_most g (least f xs) ys (moved-filled n)
-                (λ j m. let w = moved-from m in omega (arith, same w.0 w.1, least_le f xs w.1, ap g w.2)),
+            least_most g (least f xs) ys (moved_filled n)
+                (λ j m. let w = moved_from m in omega (arith, same w.0 w.1, least_le f xs w.1, ap g w.2)),
           ))
 
-      pub moved-greatest : greatest f xs ≡ greatest g ys
-      moved-greatest =
+      pub moved_greatest : greatest f xs ≡ greatest g ys
+      moved_greatest =
           omega (
             arith,
             greatest_le f (greatest g ys) xs (λ i m. omega (arith, same i m, greatest_ge g ys (moved_in m))),
             greatest_le g (greatest f xs) ys
-                (λ j m. let w = moved-from m in omega (arith, same w.0 w.1, greatest_ge f xs w.1, ap g w.2)),
+                (λ j m. let w = moved_from m in omega (arith, same w.0 w.1, greatest_ge f xs w.1, ap g w.2)),
           )
 
     -- If ρ leads back, xs are the places to which ρ sends ys, functions agree along ρ too, and nobody stands twice in ys.
@@ -128,18 +128,18 @@ module _ (π : ℕ → ℕ) where
       pub moved_back : Moved ρ ys xs
       moved_back f = sym (e (λ j. f (ρ j))) ∙ weight_cong (λ i. f (ρ (π i))) f xs (λ i m. ap f (back i m))
 
-      pub moved-home : {j : ℕ} → Memᴰ j ys → Memᴰ (ρ j) xs × (π (ρ j) ≡ j)
-      moved-home {j} m =
-          let w = moved-from m in
+      pub moved_home : {j : ℕ} → Memᴰ j ys → Memᴰ (ρ j) xs × (π (ρ j) ≡ j)
+      moved_home {j} m =
+          let w = moved_from m in
           let q : ρ j ≡ w.0 = ap ρ (sym w.2) ∙ back w.0 w.1 in
           (Memᴰ.cast q w.1, ap π q ∙ w.2)
 
-      pub moved-agree :
+      pub moved_agree :
           (f g : ℕ → ℕ) → ((i : ℕ) → Memᴰ i xs → f i ≡ g (π i)) → (j : ℕ) → Memᴰ j ys → g j ≡ f (ρ j)
-      moved-agree f g same j m = let h = moved-home m in ap g (sym h.1) ∙ sym (same (ρ j) h.0)
+      moved_agree f g same j m = let h = moved_home m in ap g (sym h.1) ∙ sym (same (ρ j) h.0)
 
-      pub moved-nodup : Nodup xs → Nodup ys
-      moved-nodup d =
+      pub moved_nodup : Nodup xs → Nodup ys
+      moved_nodup d =
           nodup_once ys
           (λ j.
           omega (arith, e (one j), once (ρ j) xs d, weight_le (λ i. one j (π i)) (one (ρ j)) xs (λ i m. counted i j m)))

@@ -59,8 +59,8 @@ added_none h = record { small = h; most = omega arith; sum = refl }
 
 module _ {r m i : ℕ} {ns : List ℕ} (a : Added r ns m i) where
   module _ (h : i < length ns) where
-    pub added-fits : Fits w32 (m + at ns i)
-    added-fits = record { fits = omega (arith, total_left ns i h, a.sum, a.small) }
+    pub added_fits : Fits w32 (m + at ns i)
+    added_fits = record { fits = omega (arith, total_left ns i h, a.sum, a.small) }
 
     pub added_more : Added r ns (m + at ns i) (i + 1)
     added_more = record { small = a.small; most = omega arith; sum = omega (arith, total_left ns i h, a.sum) }
@@ -115,11 +115,11 @@ module _ {rs cs xs es : List ℕ} {i : ℕ} (s : Summed rs cs xs es i) where
     whole =
         rw (e, part_within es (length xs) i (omega arith), s.left, drop-map (at cs) xs i, total-map (at cs) (drop i xs), drop-cons xs i 0 h)
 
-    pub summed-inside : p < length rs
-    summed-inside = rw e (every_at (Ranged rs cs) xs i h s.each).inside
+    pub summed_inside : p < length rs
+    summed_inside = rw e (every_at (Ranged rs cs) xs i h s.each).inside
 
-    pub summed-small : at rs p + total (take (length xs - i) (drop i es)) < 4_294_967_296
-    summed-small =
+    pub summed_small : at rs p + total (take (length xs - i) (drop i es)) < 4_294_967_296
+    summed_small =
         let t : Tail rs cs (drop i xs) =
         record {
           some = simp length-drop (omega arith);
@@ -128,8 +128,8 @@ module _ {rs cs xs es : List ℕ} {i : ℕ} (s : Summed rs cs xs es i) where
         } in
         omega (arith, whole, tail_most t)
 
-    pub summed-more : {m : ℕ} → m ≡ at rs p + total (take (length xs - i) (drop i es)) → Summed rs cs xs (set es i m) (i + 1)
-    summed-more {m} f =
+    pub summed_more : {m : ℕ} → m ≡ at rs p + total (take (length xs - i) (drop i es)) → Summed rs cs xs (set es i m) (i + 1)
+    summed_more {m} f =
         record {
           few = s.few;
           each = s.each;

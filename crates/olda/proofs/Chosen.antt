@@ -35,15 +35,15 @@ module _ (lt : ℕ → ℕ → Bool) (xs : List ℕ) where
       unfolding ahead
       step = rw add-one (rw (drop-cons xs i 0 h) at a.same)
 
-      ahead-new : lt (at xs i) p ≡ true → Ahead lt xs (at xs i) (i + 1)
-      ahead-new t = record { within = omega arith; same = rw t at step }
+      ahead_new : lt (at xs i) p ≡ true → Ahead lt xs (at xs i) (i + 1)
+      ahead_new t = record { within = omega arith; same = rw t at step }
 
-      ahead-old : lt (at xs i) p ≡ false → Ahead lt xs p (i + 1)
-      ahead-old t = record { within = omega arith; same = rw t at step }
+      ahead_old : lt (at xs i) p ≡ false → Ahead lt xs p (i + 1)
+      ahead_old t = record { within = omega arith; same = rw t at step }
 
-    ahead-all : length xs ≤ i → choose lt xs ≡ some p
+    ahead_all : length xs ≤ i → choose lt xs ≡ some p
     unfolding ahead
-    ahead-all h = rw (drop_of_length-le xs h) at a.same
+    ahead_all h = rw (drop_of_length-le xs h) at a.same
 
 -- The order of raised bounds: the greater bound, or an equal one and the pair behind.
 module _ (us js ks : List ℕ) (p q : ℕ) where
@@ -77,36 +77,36 @@ module _ {xs us js ks : List ℕ} {k top i : ℕ} (t : Topped xs us js ks k top 
   topped_held e = rw e (every_at (Known us js ks) xs k t.inside t.asked.each)
 
   module _ {p : ℕ} (h : i < length xs) (e : p ≡ at xs i) where
-    pub topped-next : Known us js ks p
-    topped-next = rw e (every_at (Known us js ks) xs i h t.asked.each)
+    pub topped_next : Known us js ks p
+    topped_next = rw e (every_at (Known us js ks) xs i h t.asked.each)
 
-    pub topped-bound : p < length us
-    topped-bound = topped-next.bound
+    pub topped_bound : p < length us
+    topped_bound = topped_next.bound
 
-    pub topped-new :
+    pub topped_new :
         (top < at us p) ⊎ ((top ≡ at us p) × (by_pair (at js) (at ks) (at xs k) p ≡ true)) → Topped xs us js ks i (at us p) (i + 1)
-    topped-new w =
+    topped_new w =
         record {
           asked = t.asked;
           inside = h;
           bound = ap (at us) e;
-          best = ahead-new (reversed (lower_by us js ks)) xs t.best h
+          best = ahead_new (reversed (lower_by us js ks)) xs t.best h
               (split (rw (t.bound, e) at w) (λ l. lower_more us js ks _ _ l) (λ l. lower_same us js ks _ _ l.0 ∙ l.1));
         }
 
-    pub topped-old :
+    pub topped_old :
         (at us p < top) ⊎ ((top ≡ at us p) × (by_pair (at js) (at ks) (at xs k) p ≡ false)) → Topped xs us js ks k top (i + 1)
-    topped-old w =
+    topped_old w =
         record {
           asked = t.asked;
           inside = t.inside;
           bound = t.bound;
-          best = ahead-old (reversed (lower_by us js ks)) xs t.best h
+          best = ahead_old (reversed (lower_by us js ks)) xs t.best h
               (split (rw (t.bound, e) at w) (λ l. lower_less us js ks _ _ l) (λ l. lower_same us js ks _ _ l.0 ∙ l.1));
         }
 
   pub topped_all : length xs ≤ i → Chosen xs us js ks k
-  topped_all h = record { inside = t.inside; last = ahead-all (reversed (lower_by us js ks)) xs t.best h }
+  topped_all h = record { inside = t.inside; last = ahead_all (reversed (lower_by us js ks)) xs t.best h }
 
 -- The least slack of the first i places is that of p.
 pub record Tight (ds zs ls : List ℕ) (p i : ℕ) : Type 0 where
@@ -131,28 +131,28 @@ module _ {ds zs ls : List ℕ} {p i : ℕ} (t : Tight ds zs ls p i) where
     here : i < length (places (length ls))
     here = omega (arith, from-length 0 (length ls))
 
-    pub tight-new : r ≡ true → Tight ds zs ls i (i + 1)
-    tight-new y =
+    pub tight_new : r ≡ true → Tight ds zs ls i (i + 1)
+    tight_new y =
         let z = places_at (length ls) i h in
         record {
           asked = t.asked;
           inside = h;
           within = omega arith;
-          best = rw z at (ahead-new (by_slack (limits ds zs) (at ls)) (places (length ls)) t.best here (rw z (sym e ∙ y)));
+          best = rw z at (ahead_new (by_slack (limits ds zs) (at ls)) (places (length ls)) t.best here (rw z (sym e ∙ y)));
         }
 
-    pub tight-old : r ≡ false → Tight ds zs ls p (i + 1)
-    tight-old y =
+    pub tight_old : r ≡ false → Tight ds zs ls p (i + 1)
+    tight_old y =
         record {
           asked = t.asked;
           inside = t.inside;
           within = omega arith;
-          best = ahead-old (by_slack (limits ds zs) (at ls)) (places (length ls)) t.best here (rw (places_at (length ls) i h) (sym e ∙ y));
+          best = ahead_old (by_slack (limits ds zs) (at ls)) (places (length ls)) t.best here (rw (places_at (length ls) i h) (sym e ∙ y));
         }
 
   pub tight_all : length ls ≤ i → Tightest ds zs ls p
   tight_all h =
       record {
         inside = t.inside;
-        least = ahead-all (by_slack (limits ds zs) (at ls)) (places (length ls)) t.best (omega (arith, from-length 0 (length ls)));
+        least = ahead_all (by_slack (limits ds zs) (at ls)) (places (length ls)) t.best (omega (arith, from-length 0 (length ls)));
       }

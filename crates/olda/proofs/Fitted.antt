@@ -18,11 +18,11 @@ use Rattle.subjobs.specs.Terms.{Terms, terms}
 use Rattle.subjobs.proofs.Fit.{refused_passed}
 use Rattle.rules.specs.Method.{Outcome, placed, stuck, in_order, method}
 use Rattle.rules.proofs.AllPlaces.{in_order_below}
-use Rattle.rules.proofs.ReleaseOrder.{inOrder-below, nodup-inOrder}
+use Rattle.rules.proofs.ReleaseOrder.{in_order-below, nodup_in_order}
 use Rattle.olda.specs.Answers.{written}
 use Rattle.olda.specs.Parts.{raised, Raised, ruling, Raising, Ranged, Placing, stepped, Placed, Room, Places}
 use Rattle.olda.proofs.Raised.{raised_signed, raised-steps}
-use Rattle.olda.proofs.Results.{fit-inside}
+use Rattle.olda.proofs.Results.{fit_inside}
 
 -- An outcome that passes leaves nothing of what the list held, one that is refused leaves all of it.
 passed_list : (T : Terms) (w : Outcome) (a b : List ℕ) → Passed ≡ ruling T w → written w a ≡ written w b
@@ -63,12 +63,12 @@ module _ {s : Subjobs} {out us ls os es : List ℕ} (m : Room s out us ls os es)
       }
 
   module _ {os' : List ℕ} (so : take (length s.releases) os' ≡ in_order (release s) (places (length s.releases))) where
-    pub room-placing :
+    pub room_placing :
         {us' : List ℕ}
         → size s ≤ length us'
         → size s ≤ length os'
         → Placing s.jobs s.subtasks s.releases s.executions us' os' es ls (length s.releases)
-    room-placing u o =
+    room_placing u o =
         let l = m.fit.lengths.releases in
         let n = length s.releases in
         record {
@@ -80,8 +80,8 @@ module _ {s : Subjobs} {out us ls os es : List ℕ} (m : Room s out us ls os es)
           order = omega arith;
           ends = omega (arith, m.ends);
           few = omega (arith, m.fit.few);
-          each = rw so (in_every (Ranged s.releases s.executions) (in_order (release s) (places n)) (λ i k. ranged i (inOrder-below (release s) n k)));
-          once = rw so (nodup-inOrder (release s) n);
+          each = rw so (in_every (Ranged s.releases s.executions) (in_order (release s) (places n)) (λ i k. ranged i (in_order-below (release s) n k)));
+          once = rw so (nodup_in_order (release s) n);
         }
 
     module _
@@ -94,35 +94,35 @@ module _ {s : Subjobs} {out us ls os es : List ℕ} (m : Room s out us ls os es)
         raised_all i h = up i (omega (arith, m.fit.lengths.deadlines))
 
         -- The steps are the method's,
-        by-method : stepped s.jobs s.subtasks s.releases s.executions us' os' ls (length s.releases) ≡ method s
+        by_method : stepped s.jobs s.subtasks s.releases s.executions us' os' ls (length s.releases) ≡ method s
         unfolding method
-        by-method =
+        by_method =
             let zeros = ap (take (size s)) m.zeros ∙ take-replicate (size s) (length ls) 0 m.local in
             rw (so, m.fit.lengths.releases, zeros, from-length 0 (size s))
             (raised-steps s (size s) us' raised_all (size s) (in_order (release s) (places (size s))) (replicate (size s) 0) (in_order_below (release s) (size s)))
 
         -- and a bound that is refused is the set's.
-        by-bounds : (w : Outcome) → method s ≡ w → ruling (raised s.jobs s.subtasks s.releases s.executions us') w ≡ ruling (terms s) w
-        by-bounds (placed ds) e = refl
-        by-bounds (stuck q k) e =
-            ap (λ (z : ℤ). Refused (Late q k z)) (raised_signed s (size s) us' raised_all q (fit-inside s m.fit q k e))
+        by_bounds_lem : (w : Outcome) → method s ≡ w → ruling (raised s.jobs s.subtasks s.releases s.executions us') w ≡ ruling (terms s) w
+        by_bounds_lem (placed ds) e = refl
+        by_bounds_lem (stuck q k) e =
+            ap (λ (z : ℤ). Refused (Late q k z)) (raised_signed s (size s) us' raised_all q (fit_inside s m.fit q k e))
 
         told : r ≡ ruling (terms s) (method s)
-        told = p.ruled ∙ ap (ruling (raised s.jobs s.subtasks s.releases s.executions us')) by-method ∙ by-bounds (method s) refl
+        told = p.ruled ∙ ap (ruling (raised s.jobs s.subtasks s.releases s.executions us')) by_method ∙ by_bounds_lem (method s) refl
 
-        pub room-refused : {q : Reason} → r ≡ Refused q → Places s out (Refused q) out
-        room-refused {q} e =
+        pub room_refused : {q : Reason} → r ≡ Refused q → Places s out (Refused q) out
+        room_refused {q} e =
             let t = sym e ∙ told in
             record { ruled = t; list = refused_list (terms s) (method s) out q t }
 
-        pub room-passed : {out' : List ℕ} → r ≡ Passed → out' ≡ take (length out) ls' → Places s out Passed out'
-        room-passed e o =
+        pub room_passed : {out' : List ℕ} → r ≡ Passed → out' ≡ take (length out) ls' → Places s out Passed out'
+        room_passed e o =
             let t = sym e ∙ told in
             let n = length s.releases in
             let z = room_long ∙ sym m.fit.lengths.releases in
             record {
               ruled = t;
               list = o
-                  ∙ rw z (p.list ∙ ap (λ (w : Outcome). written w (take n ls')) by-method)
+                  ∙ rw z (p.list ∙ ap (λ (w : Outcome). written w (take n ls')) by_method)
                   ∙ passed_list (terms s) (method s) (take n ls') out t;
             }

@@ -77,8 +77,8 @@ leading_first ns h =
 
 module _ {ns : List ℕ} {k i : ℕ} (l : Leading ns k i) where
   module _ (h : i < length ns) where
-    pub leading-new : at ns k ≤ at ns i → Leading ns i (i + 1)
-    leading-new e =
+    pub leading_new : at ns k ≤ at ns i → Leading ns i (i + 1)
+    leading_new e =
         record {
           inside = omega arith;
           within = omega arith;
@@ -86,8 +86,8 @@ module _ {ns : List ℕ} {k i : ℕ} (l : Leading ns k i) where
           latest = λ j q w. absurd (omega arith);
         }
 
-    pub leading-old : at ns i < at ns k → Leading ns k (i + 1)
-    leading-old e =
+    pub leading_old : at ns i < at ns k → Leading ns k (i + 1)
+    leading_old e =
         record {
           inside = omega (arith, l.inside);
           within = omega arith;
@@ -140,12 +140,12 @@ module _ (r c : ℕ → ℕ) where
 
   -- The same of an array whose first n numbers are the completions; v is the execution of the sub-job at k.
   module _ (xs es : List ℕ) (n k v : ℕ) (e : take n es ≡ completions r c xs) (l : length xs ≡ n) (h : k < n) (q : c (at xs k) ≡ v) where
-    pub held-enough : (i : ℕ) → i < k → v ≤ at es i
-    held-enough i j =
+    pub held_enough : (i : ℕ) → i < k → v ≤ at es i
+    held_enough i j =
         omega (arith, completions_hold xs k i (omega arith) j, ap (λ (ms : List ℕ). at ms i) e, get_or-take n es i 0 (omega arith))
 
-    pub held-rest : rest k (take n (lessened k v es)) ≡ completions r c (rest k xs)
-    held-rest = rw (take-lessened n k v es (omega arith), e, ← q) (completions-rest xs k (omega arith))
+    pub held_rest : rest k (take n (lessened k v es)) ≡ completions r c (rest k xs)
+    held_rest = rw (take-lessened n k v es (omega arith), e, ← q) (completions-rest xs k (omega arith))
 
   -- Completions below m leave `best` below it.
   best_below : (xs : List ℕ) (m : ℕ) → 0 < m → ((j : ℕ) → j < length xs → at (completions r c xs) j < m) → best r c xs < m
@@ -154,19 +154,19 @@ module _ (r c : ℕ → ℕ) where
   best_below (x ∷ xs) m h f = omega (arith, f 0 (omega arith), best_below xs m h (λ j l. f (suc j) (omega arith)))
 
   -- The latest of the greatest completions is `best`, and its tail is `base`.
-  pub greatest-tail :
+  pub greatest_tail :
       (xs : List ℕ) (k : ℕ)
       → 1 ≤ at (completions r c xs) k
       → Greatest (completions r c xs) k
       → (at (completions r c xs) k ≡ best r c xs) × (drop k xs ≡ base r c xs)
   unfolding best base completions
-  greatest-tail [] k o g = absurd (omega (arith, g.inside))
-  greatest-tail (x ∷ xs) zero o g =
+  greatest_tail [] k o g = absurd (omega (arith, g.inside))
+  greatest_tail (x ∷ xs) zero o g =
       let l = best_below xs (r x + weight c (x ∷ xs)) o (λ j q. g.latest (suc j) (omega arith) (omega (arith, completions-length r c xs))) in
       (omega arith, rw (lt-ltb _ _ l))
-  greatest-tail (x ∷ xs) (suc k) o g =
+  greatest_tail (x ∷ xs) (suc k) o g =
       let w =
-      greatest-tail xs k o
+      greatest_tail xs k o
       record {
         inside = omega (arith, g.inside);
         most = λ j q. g.most (suc j) (omega arith);

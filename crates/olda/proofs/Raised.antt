@@ -35,15 +35,15 @@ risen_none a = record { most = omega arith; asked = a; done = λ i h. absurd (om
 
 module _ {ds zs us : List ℕ} {i : ℕ} (r : Risen ds zs us i) where
   module _ (h : i < length ds) where
-    pub risen-fits : Fits w32 (at ds i + raise)
-    risen-fits = record { fits = omega (arith, r.asked.most i h) }
+    pub risen_fits : Fits w32 (at ds i + raise)
+    risen_fits = record { fits = omega (arith, r.asked.most i h) }
 
     module _ {w : ℕ} (e : w ≡ (limits ds zs).withheld i) where
-      pub risen-least : w ≤ at ds i + raise
-      risen-least = omega (arith, e, r.asked.least i h)
+      pub risen_least : w ≤ at ds i + raise
+      risen_least = omega (arith, e, r.asked.least i h)
 
-      pub risen-more : Risen ds zs (set us i (at ds i + raise - w)) (i + 1)
-      risen-more =
+      pub risen_more : Risen ds zs (set us i (at ds i + raise - w)) (i + 1)
+      risen_more =
           let v = at ds i + raise - w in
           let a = r.asked in
           record {
@@ -51,7 +51,7 @@ module _ {ds zs us : List ℕ} {i : ℕ} (r : Risen ds zs us i) where
             asked = record { criticals = a.criticals; room = simp length-set a.room; least = a.least; most = a.most };
             done = λ j b.
                 test (eqb j i)
-                (λ t. let q : j ≡ i = omega tests in rw (q, get_or-set_same us i v 0 (omega (arith, a.room))) (omega (arith, risen-least, e)))
+                (λ t. let q : j ≡ i = omega tests in rw (q, get_or-set_same us i v 0 (omega (arith, a.room))) (omega (arith, risen_least, e)))
                 (λ t. rw (get_or-set_other us i j v 0 (eqb_no j i t)) (r.done j (omega tests)));
           }
 

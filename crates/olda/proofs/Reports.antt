@@ -53,29 +53,29 @@ module _ (s : Subjobs) (out : List ℕ) {j : Judgement} (e : j ≡ judgement s (
 
   -- and that passes is placed.
   module _ (g : j ≡ judged.Passed) where
-    pub judged-fits : Fits s out
-    judged-fits = fit s (eqb (length out) (size s)) (sym e ∙ g)
+    pub judged_fits : Fits s out
+    judged_fits = fit s (eqb (length out) (size s)) (sym e ∙ g)
 
     long : length out ≡ size s
-    long = eqb-true (length out) (size s) judged-fits.lengths.further
+    long = eqb-true (length out) (size s) judged_fits.lengths.further
 
     module _ {r : Judgement} {out' : List ℕ} (p : Places s out r out') where
-      pub placed-length : length out' ≡ length out
-      placed-length = ap length p.list ∙ fit_length s judged-fits out long (method s) refl
+      pub placed_length : length out' ≡ length out
+      placed_length = ap length p.list ∙ fit_length s judged_fits out long (method s) refl
 
-      pub placed-reporting : Reporting s.deadlines s.criticals out'
-      placed-reporting =
-          let l = judged-fits.lengths in
-          record { deadlines = omega (arith, placed-length, long, l.deadlines); criticals = omega (arith, placed-length, long, l.criticals) }
+      pub placed_reporting : Reporting s.deadlines s.criticals out'
+      placed_reporting =
+          let l = judged_fits.lengths in
+          record { deadlines = omega (arith, placed_length, long, l.deadlines); criticals = omega (arith, placed_length, long, l.criticals) }
 
       -- Either way the answer is the ruling's.
       told : {a : Answer} → a ≡ if_passed r (report s (at out')) Refused → Assigns s out a out'
       unfolding answer results
       told q = rw (← e, g) (q ∙ rw (p.ruled, p.list) (answered s (method s) out), p.list)
 
-      pub placed-refused : {q : Reason} → r ≡ judged.Refused q → Assigns s out (Refused q) out'
-      placed-refused h = told (rw h)
+      pub placed_refused : {q : Reason} → r ≡ judged.Refused q → Assigns s out (Refused q) out'
+      placed_refused h = told (rw h)
 
-      pub placed-passed : {a : Answer} → r ≡ judged.Passed → a ≡ reported (limits s.deadlines s.criticals) (length out') (at out') → Assigns s out a out'
+      pub placed_passed : {a : Answer} → r ≡ judged.Passed → a ≡ reported (limits s.deadlines s.criticals) (length out') (at out') → Assigns s out a out'
       unfolding report
-      placed-passed h q = told (q ∙ rw (h, placed-length, long))
+      placed_passed h q = told (q ∙ rw (h, placed_length, long))

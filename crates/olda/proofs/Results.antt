@@ -42,38 +42,38 @@ module _ (s : Subjobs) where
     fit_length out l (stuck p m) e = refl
     fit_length out l (placed ds) e = ((method-placed s f ds).0 e).0 ∙ sym l
 
-    pub fit-inside : (p m : ℕ) → method s ≡ stuck p m → p < size s
-    fit-inside p m e = places_in (size s) p (refused_in (terms s) (places (size s)) ((method-stuck s f p m).0 e))
+    pub fit_inside : (p m : ℕ) → method s ≡ stuck p m → p < size s
+    fit_inside p m e = places_in (size s) p (refused_in (terms s) (places (size s)) ((method-stuck s f p m).0 e))
 
   pub results-length : (out : List ℕ) → length (results s out) ≡ length out
   unfolding results
-  results-length out = by-judgement (judgement s (eqb (length out) (size s))) refl
+  results-length out = by_judgement (judgement s (eqb (length out) (size s))) refl
     where
-      by-judgement :
+      by_judgement :
           (j : Judgement)
           → judgement s (eqb (length out) (size s)) ≡ j
           → length (if_passed j (written (method s) out) (λ r. out)) ≡ length out
-      by-judgement (judged.Refused r) e = refl
-      by-judgement judged.Passed e =
+      by_judgement (judged.Refused r) e = refl
+      by_judgement judged.Passed e =
           let f = fit s (eqb (length out) (size s)) e in
           fit_length f out (eqb-true (length out) (size s) f.lengths.further) (method s) refl
 
   pub refused_within : (n : ℕ) (r : Reason) → answer s n ≡ Refused r → place_of r < 128
   unfolding answer
-  refused_within n r a = by-judgement (judgement s (eqb n (size s))) refl a
+  refused_within n r a = by_judgement (judgement s (eqb n (size s))) refl a
     where
-      by-outcome :
+      by_outcome :
           judgement s (eqb n (size s)) ≡ judged.Passed → (w : Outcome) → method s ≡ w → outcome s w ≡ Refused r → place_of r < 128
-      by-outcome e (placed ds) q h = never_refused s (λ i. get_or ds i 0) r h
-      by-outcome e (stuck p m) q h =
+      by_outcome e (placed ds) q h = never_refused s (λ i. get_or ds i 0) r h
+      by_outcome e (stuck p m) q h =
           let f = fit s (eqb n (size s)) e in
           let k : Late p m (bound (terms s) p) ≡ r = cc in
-          rw (← k) (omega (arith, fit-inside f p m q, f.few))
+          rw (← k) (omega (arith, fit_inside f p m q, f.few))
 
-      by-judgement :
+      by_judgement :
           (j : Judgement)
           → judgement s (eqb n (size s)) ≡ j
           → if_passed j (outcome s (method s)) Refused ≡ Refused r
           → place_of r < 128
-      by-judgement judged.Passed e h = by-outcome e (method s) refl h
-      by-judgement (judged.Refused q) e h = let g : q ≡ r = cc in judged_within s (eqb n (size s)) r (e ∙ ap judged.Refused g)
+      by_judgement judged.Passed e h = by_outcome e (method s) refl h
+      by_judgement (judged.Refused q) e h = let g : q ≡ r = cc in judged_within s (eqb n (size s)) r (e ∙ ap judged.Refused g)

@@ -23,14 +23,14 @@ use Rattle.subjobs.specs.Terms.{terms, bound, slack, by_slack, lower}
 use Rattle.subjobs.specs.Judging.{judgement}
 use Rattle.subjobs.specs.Faults.{Fit}
 use Rattle.subjobs.proofs.Fit.{fit_passes}
-use Rattle.subjobs.proofs.Bounds.{bound_order, bound_less, bound_met, slack_less, lower_order, lower_total, lower-says}
+use Rattle.subjobs.proofs.Bounds.{bound_order, bound_less, bound_met, slack_less, lower_order, lower_total, lower_says}
 use Rattle.rules.specs.Method.{Outcome, placed, stuck, method}
 use Rattle.rules.specs.Rules.{over, Accepted}
-use Rattle.rules.proofs.Tails.{attained, base-threshold}
-use Rattle.rules.proofs.ReleaseOrder.{inorder-arranged, nodup-arranged, arranged-in, in-arranged}
-use Rattle.rules.proofs.Rules.{tail-base, base-tail, turn-falls}
+use Rattle.rules.proofs.Tails.{attained, base_threshold}
+use Rattle.rules.proofs.ReleaseOrder.{inorder_arranged, nodup_arranged, arranged_in, in_arranged}
+use Rattle.rules.proofs.Rules.{tail_base, base_tail, turn_falls}
 use Rattle.rules.proofs.Obeys.{fit_ones, method-placed, method-stuck, accepted_one, refused_one, accepted_refused}
-use Rattle.rules.proofs.Accepted.{accepted_six, accepted_seven, accepted-apart}
+use Rattle.rules.proofs.Accepted.{accepted_six, accepted_seven, accepted_apart}
 use Rattle.rules.proofs.Slack.{chosen_slack, least_slack_one}
 use Rattle.olda.specs.declared.Answer.TheVariants.{Placed, Nothing, Refused}
 use Rattle.olda.specs.Answers.{report, answer, results, values}
@@ -70,9 +70,9 @@ module _ (s : Subjobs) (ds : List ℕ) where
       ∙ (bound_order (terms s).deadline (λ i. (terms s).withheld i + at ds i)).irrefl q)
 
   -- The place that is chosen is reported ..
-  pub chosen-reported :
+  pub chosen_reported :
       {p : ℕ} → choose (by_slack (terms s) (at ds)) (places (size s)) ≡ some p → Reported s ds p (slack (terms s) (at ds) p)
-  chosen-reported {p} e =
+  chosen_reported {p} e =
       let o = bound_order (terms s).deadline (λ i. (terms s).withheld i + at ds i) in
       let w = chosen_slack (terms s) (at ds) (places (size s)) e in
       let h = places_in (size s) p (chosen_in (by_slack (terms s) (at ds)) (places (size s)) e) in (
@@ -89,7 +89,7 @@ module _ (s : Subjobs) (ds : List ℕ) where
       (λ w. in_nil (rw w.0 at (in_places (size s) p h.1)))
       (λ w.
       let q : ℕ = w.0 in
-      let c = chosen-reported w.2 in
+      let c = chosen_reported w.2 in
       let same : slack (terms s) (at ds) q ≡ x = least_slack_one (terms s) (at ds) (places (size s)) c.0 h.0 in
       test (ltb p q)
       (λ l. absurd (c.3 p (omega tests) (h.2 ∙ sym same)))
@@ -127,24 +127,24 @@ module _ (s : Subjobs) (out : List ℕ) where
     unfolding answer results
     stuck-answer p m q = (rw (passed, q), rw (passed, q))
 
-    by-method : (w : Outcome) → method s ≡ w → AssignSays s out (values (answer s (length out))) (results s out)
-    by-method (stuck p m) q =
+    by_method : (w : Outcome) → method s ≡ w → AssignSays s out (values (answer s (length out))) (results s out)
+    by_method (stuck p m) q =
         let a = stuck-answer p m q in
         rw (a.0, a.1) (says.late f ((method-stuck s f p m).0 q))
-    by-method (placed ds) q =
+    by_method (placed ds) q =
         let a = placed-answer ds q in
         let b = (method-placed s f ds).0 q in
         split (choose_cases (by_slack (terms s) (at ds)) (places (size s)))
         (λ w.
         let z = places-nil (size s) w.0 in
         rw (a.0, a.1, report_none s ds z, nil ds (b.0 ∙ z)) (says.nothing f z))
-        (λ w. rw (a.0, a.1, report-some s ds w.0 w.2) (says.placed f b.0 b.1 (chosen-reported s ds w.2)))
+        (λ w. rw (a.0, a.1, report-some s ds w.0 w.2) (says.placed f b.0 b.1 (chosen_reported s ds w.2)))
 
   says_so : AssignSays s out (values (answer s (length out))) (results s out)
   says_so =
       split (judged_cases s (results_fit s out))
       (λ w. let a = refused_answer w.1 in rw (a.0, a.1) (says.faulty w.2))
-      (λ f. by-method f (method s) refl)
+      (λ f. by_method f (method s) refl)
 
   -- What RULES says is what `assign` answers.
   only : {v : List ℤ} {l : List ℕ} → AssignSays s out v l → (v ≡ values (answer s (length out))) × (l ≡ results s out)
@@ -179,26 +179,26 @@ rules_allow_one s o f =
 
 pub release_order_is_the_set : ReleaseOrderIsTheSet
 release_order_is_the_set r xs =
-    (inorder-arranged r xs, nodup-arranged r xs, λ i. ((λ m. arranged-in r xs m), λ m. in-arranged r xs m))
+    (inorder_arranged r xs, nodup_arranged r xs, λ i. ((λ m. arranged_in r xs m), λ m. in_arranged r xs m))
 
 pub tail_is_the_base : TailIsTheBase
-tail_is_the_base T xs s ones n U = (base-tail T xs s ones U, tail-base T xs s ones U n)
+tail_is_the_base T xs s ones n U = (base_tail T xs s ones U, tail_base T xs s ones U n)
 
 pub tail_is_one_release : TailIsOneRelease
-tail_is_one_release r c xs s ones = (sym (base-threshold r c xs s ones), attained r c xs s)
+tail_is_one_release r c xs s ones = (sym (base_threshold r c xs s ones), attained r c xs s)
 
 pub completions_fall : CompletionsFall
-completions_fall s xs ones b m b' m' t t' = turn-falls (terms s) (lower_order s) xs ones t t'
+completions_fall s xs ones b m b' m' t t' = turn_falls (terms s) (lower_order s) xs ones t t'
 
 pub ties_by_pair : TiesByPair
 ties_by_pair s i j = (
-  lower-says s i j,
+  lower_says s i j,
   λ o f a b n.
       test (lower s i j)
-      (λ y. inl ((lower-says s i j).0 y))
+      (λ y. inl ((lower_says s i j).0 y))
       (λ y.
       test (lower s j i)
-      (λ z. inr ((lower-says s j i).0 z))
+      (λ z. inr ((lower_says s j i).0 z))
       (λ z. absurd (n (lower_total s f.pairs i j (in_places (size s) i a) (in_places (size s) j b) y z)))),
 )
 
@@ -228,5 +228,5 @@ deadlines_meet_six_and_seven s ds h =
 pub deadlines_differ : DeadlinesDiffer
 deadlines_differ s ds h i j p q =
     let w = assigned_rules s ds h in
-    accepted-apart (terms s) (lower_order s) (places (size s)) (fit_ones s w.0) w.2
+    accepted_apart (terms s) (lower_order s) (places (size s)) (fit_ones s w.0) w.2
     (in_places (size s) i p) (in_places (size s) j q)

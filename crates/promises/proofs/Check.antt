@@ -19,7 +19,7 @@ use Rattle.ticks.proofs.Keeps.{kept, met}
 use Rattle.checker.specs.declared.Answer.TheVariants.{Accepted, Refused}
 use Rattle.checker.specs.Answers as checker
 use Rattle.checker.specs.Answers.{answer, values}
-use Rattle.checker.proofs.Accepts.{checked, seven-finishes, Unmets, Misses}
+use Rattle.checker.proofs.Accepts.{checked, seven_finishes, Unmets, Misses}
 use Rattle.promises.specs.Words.{accepted, Meets, MeetsSix, MeetsSeven}
 use Rattle.promises.specs.Check as says
 use Rattle.promises.specs.Check.{proposed_fit, CheckSays, CheckAnswers, ChecksExactly, SevenOnTheCore, KeepsDeadlines}
@@ -54,7 +54,7 @@ module _ (s : Subjobs) (ds : List ℕ) where
       split (checked s ds).holds
       (λ p.
       let six = meet_all p.1.0 in
-      rw (passed_answer ((checked s ds).passes p)) (says.met p.0 six ((seven-finishes s ds p.0 six).1 p.1.1)))
+      rw (passed_answer ((checked s ds).passes p)) (says.met p.0 six ((seven_finishes s ds p.0 six).1 p.1.1)))
       (λ q.
       rw (refused_answer ((checked s ds).refuses q.0 q.1))
       (split q.1
@@ -72,7 +72,7 @@ module _ (s : Subjobs) (ds : List ℕ) where
   only (says.unmet {p} f h n b) = refused_so {r = Unmet p} (inr (f, inl (p, h, b, (refl, n))))
   only (says.missed {p} f six h n b) = refused_so {r = Missed p} (inr (f, inr (all_meet six, (p, h, b, (refl, n)))))
   only (says.met f six seven) =
-      sym (ap values (passed_answer ((checked s ds).passes (f, (all_meet six, (seven-finishes s ds f six).0 seven)))))
+      sym (ap values (passed_answer ((checked s ds).passes (f, (all_meet six, (seven_finishes s ds f six).0 seven)))))
 
 pub check_answers : CheckAnswers
 check_answers s ds = (says_so s ds, λ v h. only s ds h)
@@ -91,7 +91,7 @@ checks_exactly s ds f = (
 )
 
 pub seven_on_the_core : SevenOnTheCore
-seven_on_the_core s ds f six = seven-finishes s ds f six
+seven_on_the_core s ds f six = seven_finishes s ds f six
 
 pub keeps_deadlines : KeepsDeadlines
 keeps_deadlines s ds asks f six seven i h =

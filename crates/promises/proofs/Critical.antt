@@ -24,9 +24,9 @@ use Rattle.graph.specs.Graphs.{Graph, size, arcs, before, after, cost, execution
 use Rattle.graph.specs.Faults as graphs
 use Rattle.graph.specs.Faults.{Sound, Fit, Faulty}
 use Rattle.graph.specs.Answers.{critical, answer, results}
-use Rattle.graph.proofs.Paths.{path-least}
-use Rattle.graph.proofs.Listed.{critical-heaviest, heaviest_one}
-use Rattle.graph.proofs.Judged.{answered, found-exactly, refused_exactly}
+use Rattle.graph.proofs.Paths.{path_least}
+use Rattle.graph.proofs.Listed.{critical_heaviest, heaviest_one}
+use Rattle.graph.proofs.Judged.{answered, found_exactly, refused_exactly}
 use Rattle.graph.proofs.Finding.{light, given, refused}
 use Rattle.promises.specs.Words.{Number, accepted, refusal, at}
 use Rattle.promises.specs.Critical as says
@@ -45,25 +45,25 @@ module _ (g : Graph) (out : List ℕ) where
 
   module _ (f : Fit g (length out)) where
     passes : answer g (length out) ≡ Passed
-    passes = (found-exactly g (length out)).1 f
+    passes = (found_exactly g (length out)).1 f
 
     written : results g out ≡ map (critical g) (places (size g))
     written = given g out passes refl
 
-    pub written-length : length (results g out) ≡ size g
-    written-length = ap length written ∙ length-map (places (size g)) (critical g) ∙ from-length 0 (size g)
+    pub written_length : length (results g out) ≡ size g
+    written_length = ap length written ∙ length-map (places (size g)) (critical g) ∙ from-length 0 (size g)
 
-    pub written-heaviest : (i : ℕ) → i < size g → Heaviest g i (at (results g out) i)
-    written-heaviest i h =
+    pub written_heaviest : (i : ℕ) → i < size g → Heaviest g i (at (results g out) i)
+    written_heaviest i h =
         let e : at (results g out) i ≡ critical g i =
         ap (λ (l : List ℕ). at l i) written ∙ at_map (critical g) (places (size g)) i (omega (arith, from-length 0 (size g))) ∙ ap (critical g) (places_at (size g) i h)
         in
-        rw e (critical-heaviest g f.sound f.acyclic i h)
+        rw e (critical_heaviest g f.sound f.acyclic i h)
 
   says_so : CriticalSays g out (values (answer g (length out))) (results g out)
   says_so =
       split (answered g (length out)).holds
-      (λ f. rw (passes f) (says.found f (written-length f) (written-heaviest f)))
+      (λ f. rw (passes f) (says.found f (written_length f) (written_heaviest f)))
       (λ w.
       let e = (refused_exactly g (length out) w.0).1 w.1 in
       let k = (refused g out w.0 e).1 in
@@ -82,8 +82,8 @@ module _ (g : Graph) (out : List ℕ) where
   only (says.cycle f) = of_fault f
   only (says.found {ws} f l h) = (
     rw (passes f),
-    ext_get_or 0 ws (results g out) (l ∙ sym (written-length f))
-        (λ i b. let k : i < size g = omega arith in heaviest_one g i _ _ (h i k) (written-heaviest f i k)),
+    ext_get_or 0 ws (results g out) (l ∙ sym (written_length f))
+        (λ i b. let k : i < size g = omega arith in heaviest_one g i _ _ (h i k) (written_heaviest f i k)),
   )
 
 pub critical_answers : CriticalAnswers
@@ -108,7 +108,7 @@ pub critical_writes :
     → (results g out ≡ results g old) × (length (results g out) ≡ length out)
 critical_writes g out old a l =
     let f = accepted_fit g (length out) a in
-    (written g out f ∙ sym (written g old (rw l f)), written-length g out f ∙ sym f.sound.lengths.results)
+    (written g out f ∙ sym (written g old (rw l f)), written_length g out f ∙ sym f.sound.lengths.results)
 
 -- An accepted graph is fit, and the list holds the greatest weights.
 module _ (g : Graph) (ws : List ℕ) (F : Found g ws) where
@@ -116,10 +116,10 @@ module _ (g : Graph) (ws : List ℕ) (F : Found g ws) where
   fit = accepted_fit g (length F.0) F.1
 
   found_length : length ws ≡ size g
-  found_length = rw (← F.2) (written-length g F.0 fit)
+  found_length = rw (← F.2) (written_length g F.0 fit)
 
   found_heaviest : (i : ℕ) → i < size g → Heaviest g i (at ws i)
-  found_heaviest = rw (← F.2) (written-heaviest g F.0 fit)
+  found_heaviest = rw (← F.2) (written_heaviest g F.0 fit)
 
   small : (i : ℕ) → at ws i ≤ 139_700_000
   small i =
@@ -139,7 +139,7 @@ critical_is_small g ws F = small g ws F
 pub nothing_follows : NothingFollows
 nothing_follows g ws F i h =
     let H = found_heaviest g ws F i h in (
-      λ z a b e. let p : Path g i (a ∷ []) = (b, e, tt) in omega (arith, H.1 (a ∷ []) p, path-least g (fit g ws F).sound i (a ∷ []) p),
+      λ z a b e. let p : Path g i (a ∷ []) = (b, e, tt) in omega (arith, H.1 (a ∷ []) p, path_least g (fit g ws F).sound i (a ∷ []) p),
       λ none. ends H.0.0 H.0.1 none H.0.2,
     )
   where
@@ -149,12 +149,12 @@ nothing_follows g ws F i h =
 
 pub cycle_is_refused : CycleIsRefused
 cycle_is_refused g n = (
-  λ e. split (answered g n).holds (λ f. absurd (zero-not (rw ((found-exactly g n).1 f) at e))) (λ w. which w.1 (rw ((refused_exactly g n w.0).1 w.1) at e)),
+  λ e. split (answered g n).holds (λ f. absurd (zero_not (rw ((found_exactly g n).1 f) at e))) (λ w. which w.1 (rw ((refused_exactly g n w.0).1 w.1) at e)),
   λ w. rw ((refused_exactly g n reasons.Cycle).1 (graphs.cycle w.0 w.1)) refl,
 )
   where
-    zero-not : Number 21 (values Passed) → ⊥
-    zero-not e = let z : ◌≡◌ {A = ℕ} 0 21 = cc in omega arith
+    zero_not : Number 21 (values Passed) → ⊥
+    zero_not e = let z : ◌≡◌ {A = ℕ} 0 21 = cc in omega arith
 
     which : {r : Reason} → Faulty g n r → Number 21 (told.values r) → Sound g n × Cycle g
     which (graphs.lengths w) e = let z : ◌≡◌ {A = ℕ} 1 21 = cc in absurd (omega arith)
@@ -215,12 +215,12 @@ arcs_do_no_harm g g' out same s s' C C' =
     let k : Fit g' (length out) = record { sound = s'; acyclic = λ c. f.acyclic (cycle_beside g' g (sym same) C' c) } in (
       passes g out f ∙ sym (passes g' out k),
       ext_get_or 0 (results g out) (results g' out)
-          (written-length g out f ∙ ap length same ∙ sym (written-length g' out k))
+          (written_length g out f ∙ ap length same ∙ sym (written_length g' out k))
           (λ i h.
-          let a : i < size g = omega (arith, written-length g out f) in
+          let a : i < size g = omega (arith, written_length g out f) in
           let b : i < size g' = omega (arith, ap length same) in
-          let x = written-heaviest g out f i a in
-          let y = written-heaviest g' out k i b in
+          let x = written_heaviest g out f i a in
+          let y = written_heaviest g' out k i b in
           omega (arith, lighter g g' same C i _ _ x y, lighter g' g (sym same) C' i _ _ y x)),
     ))
     (λ w. refuse w.1)

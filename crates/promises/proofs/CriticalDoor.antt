@@ -22,7 +22,7 @@ use Rattle.graph.proofs.Judged.{refused_within}
 use Rattle.charoktan.specs.Records.{encoded, graph_of, fitting_graph}
 use Rattle.charoktan.specs.Answers.{code, found, found_bytes}
 use Rattle.charoktan.proofs.Coding.{length-encoded, words-encoded}
-use Rattle.charoktan.proofs.GraphDoor.{size_graph, graph-unfit, graph-answered}
+use Rattle.charoktan.proofs.GraphDoor.{size_graph, graph_unfit, graph_answered}
 use Rattle.promises.specs.Critical.{CriticalSays, Found}
 use Rattle.promises.specs.CriticalDoor as says
 use Rattle.promises.specs.CriticalDoor.{WholeGraph, room, DoorCriticalSays, DoorFinds, GraphToldApart, DoorHandsOn}
@@ -66,12 +66,12 @@ module _ (es bs out : List ℕ) where
     refused_so :
         {r : Reason} → answer (graph_of es bs) (length (room es)) ≡ Refused r
         → (code r ≡ found es bs (length out)) × (out ≡ found_bytes es bs out)
-    refused_so {r} q = let w = graph-answered es bs out e (Refused r) (asked ∙ q) in (sym w.0, sym w.1)
+    refused_so {r} q = let w = graph_answered es bs out e (Refused r) (asked ∙ q) in (sym w.0, sym w.1)
 
-    found-so :
+    found_so :
         answer (graph_of es bs) (length (room es)) ≡ Passed
         → (0 ≡ found es bs (length out)) × (encoded (results (graph_of es bs) (room es)) ≡ found_bytes es bs out)
-    found-so q = let w = graph-answered es bs out e Passed (asked ∙ q) in (sym w.0, sym w.1)
+    found_so q = let w = graph_answered es bs out e Passed (asked ∙ q) in (sym w.0, sym w.1)
 
     fitted : DoorCriticalSays es bs out (found es bs (length out)) (found_bytes es bs out)
     fitted = by_answer (answer (graph_of es bs) (length (room es))) refl
@@ -81,24 +81,24 @@ module _ (es bs out : List ℕ) where
             → DoorCriticalSays es bs out (found es bs (length out)) (found_bytes es bs out)
         by_answer (Refused r) q =
             let w = refused_so q in rw (← w.0, ← w.1) (says.refused (whole es bs out e) (rw q at said) (not_0 r))
-        by_answer Passed q = let w = found-so q in rw (← w.0, ← w.1) (says.accepted (whole es bs out e) (rw q at said))
+        by_answer Passed q = let w = found_so q in rw (← w.0, ← w.1) (says.accepted (whole es bs out e) (rw q at said))
 
   says_so : DoorCriticalSays es bs out (found es bs (length out)) (found_bytes es bs out)
   says_so =
       test (fitting_graph es bs (length out)) fitted
-      (λ n. let w = graph-unfit es bs out n in rw (w.0, w.1) (says.lengths (λ h. clash (fits es bs out h) n)))
+      (λ n. let w = graph_unfit es bs out n in rw (w.0, w.1) (says.lengths (λ h. clash (fits es bs out h) n)))
 
   only : {n : ℕ} {l : List ℕ} → DoorCriticalSays es bs out n l → (n ≡ found es bs (length out)) × (l ≡ found_bytes es bs out)
   only (says.lengths h) =
       test (fitting_graph es bs (length out)) (λ e. absurd (h (whole es bs out e)))
-      (λ n. let w = graph-unfit es bs out n in (sym w.0, sym w.1))
+      (λ n. let w = graph_unfit es bs out n in (sym w.0, sym w.1))
   only (says.refused {n} {p} w h z) =
       let q = refuses (answer (graph_of es bs) (length (room es))) (told h).0 z in
       let d = refused_so (fits es bs out w) q.1 in
       (omega (arith, d.0, q.2, q.3), d.1)
   only (says.accepted {vs} {ws} w h) =
       let t = told h in
-      let d = found-so (fits es bs out w) (accepts (answer (graph_of es bs) (length (room es))) t.0) in
+      let d = found_so (fits es bs out w) (accepts (answer (graph_of es bs) (length (room es))) t.0) in
       (d.0, ap encoded t.1 ∙ d.1)
 
   -- A number other than 0 leaves every byte.
@@ -111,11 +111,11 @@ module _ (es bs out : List ℕ) where
       kept (says.accepted w h) z = absurd (z refl)
 
   -- The number 0 means that `critical` accepts the graph, and its results are written.
-  pub graph-found :
+  pub graph_found :
       found es bs (length out) ≡ 0
       → WholeGraph es bs out × Found (graph_of es bs) (results (graph_of es bs) (room es))
       × (found_bytes es bs out ≡ encoded (results (graph_of es bs) (room es)))
-  graph-found z = taken says_so z
+  graph_found z = taken says_so z
     where
       taken :
           {n : ℕ} {l : List ℕ}
@@ -133,8 +133,8 @@ pub graph_writes :
     → length old ≡ length out
     → (found_bytes es bs out ≡ found_bytes es bs old) × (length (found_bytes es bs out) ≡ length out)
 graph_writes es bs out old z l =
-    let a = graph-found es bs out z in
-    let b = graph-found es bs old (rw l z) in
+    let a = graph_found es bs out z in
+    let b = graph_found es bs old (rw l z) in
     let ws = results (graph_of es bs) (room es) in
     let whole_out = a.0 in (
       a.2 ∙ sym b.2,
@@ -152,7 +152,7 @@ graph_told_apart es bs out l n p vs w z h =
 
 pub door_hands_on : DoorHandsOn
 door_hands_on es bs out z =
-    let w = graph-found es bs out z in
+    let w = graph_found es bs out z in
     let ws = results (graph_of es bs) (room es) in
     let l : length ws ≡ length es / 4 = (critical_is_heaviest (graph_of es bs) ws w.1).0 ∙ size_graph es bs in
     rw (w.2, words-encoded ws (length es / 4) l (λ i h. omega (arith, critical_is_small (graph_of es bs) ws w.1 i))) w.1

@@ -27,7 +27,7 @@ use Rattle.checker.proofs.Reported as reported
 use Rattle.charoktan.specs.Records.{count, records, encoded, words, fitting}
 use Rattle.charoktan.specs.Answers.{code, assigned, assigned_bytes, checked}
 use Rattle.charoktan.proofs.Coding.{length-encoded, words-encoded}
-use Rattle.charoktan.proofs.Door.{fit_length, size-records, unfit, answered, unfit_check, answered-check}
+use Rattle.charoktan.proofs.Door.{fit_length, size-records, unfit, answered, unfit_check, answered_check}
 use Rattle.promises.specs.Words.{accepted, Assigned}
 use Rattle.promises.specs.Assign as assign
 use Rattle.promises.specs.Assign.{AssignSays}
@@ -103,21 +103,21 @@ module _ (bs out : List ℕ) where
         → (code r ≡ assigned bs (length out)) × (out ≡ assigned_bytes bs out)
     refused_so {r} q = let w = answered bs out e (Refused r) (asked ∙ q) in (sym w.0, sym w.1)
 
-    placed-so :
+    placed_so :
         {ds : List ℕ} (a : Answer)
         → olda.answer (records bs) (length (room bs)) ≡ a
         → accepted (olda.values a)
         → AssignSays (records bs) (room bs) (olda.values a) ds
         → (0 ≡ assigned bs (length out)) × (encoded ds ≡ assigned_bytes bs out)
-    placed-so {ds} (Placed r) q acc h =
+    placed_so {ds} (Placed r) q acc h =
         let w = answered bs out e (Placed r) (asked ∙ q) in
         (sym w.0, ap encoded ((assign_answers (records bs) (room bs)).1 _ ds h).1 ∙ sym w.1)
-    placed-so {ds} Nothing q acc h =
+    placed_so {ds} Nothing q acc h =
         let w = nothing_placed (records bs) (room bs) h refl in
         let none : length out ≡ 0 = omega (arith, fit_length bs (length out) e, size-records bs, w.0) in
         let a = answered bs out e Nothing (asked ∙ q) in
         (sym a.0, ap encoded w.1 ∙ nil (encoded []) (length-encoded []) ∙ sym (nil out none) ∙ sym a.1)
-    placed-so (Refused r) q acc h = absurd (refused_number r acc)
+    placed_so (Refused r) q acc h = absurd (refused_number r acc)
 
     fitted : DoorAssignSays bs out (assigned bs (length out)) (assigned_bytes bs out)
     fitted = by_answer (olda.answer (records bs) (length (room bs))) refl
@@ -131,11 +131,11 @@ module _ (bs out : List ℕ) where
             rw (← w.0, ← w.1) (says.refused (whole bs out e) (rw q at said) (not_0 r))
         by_answer (Placed r) q =
             let h = rw q at said in
-            let w = placed-so (Placed r) q refl h in
+            let w = placed_so (Placed r) q refl h in
             rw (← w.0, ← w.1) (says.placed (whole bs out e) h)
         by_answer Nothing q =
             let h = rw q at said in
-            let w = placed-so Nothing q refl h in
+            let w = placed_so Nothing q refl h in
             rw (← w.0, ← w.1) (says.placed (whole bs out e) h)
 
   says_so : DoorAssignSays bs out (assigned bs (length out)) (assigned_bytes bs out)
@@ -153,7 +153,7 @@ module _ (bs out : List ℕ) where
       (omega (arith, d.0, q.2, q.3), d.1)
   only (says.placed {vs} {ds} w h) =
       let v = ((assign_answers (records bs) (room bs)).1 _ _ h).0 in
-      placed-so (fits bs out w) (olda.answer (records bs) (length (room bs))) refl (rw (← v) refl) (rw v at h)
+      placed_so (fits bs out w) (olda.answer (records bs) (length (room bs))) refl (rw (← v) refl) (rw v at h)
 
   -- A number other than 0 leaves every byte.
   pub door_keeps : assigned bs (length out) ≢ 0 → assigned_bytes bs out ≡ out
@@ -165,11 +165,11 @@ module _ (bs out : List ℕ) where
       kept (says.placed w h) z = absurd (z refl)
 
   -- The number 0 means that the assignment accepts the records, and its deadlines are written.
-  pub door-placed :
+  pub door_placed :
       assigned bs (length out) ≡ 0
       → Whole bs out × Assigned (records bs) (olda.results (records bs) (room bs))
       × (assigned_bytes bs out ≡ encoded (olda.results (records bs) (room bs)))
-  door-placed z = taken says_so z
+  door_placed z = taken says_so z
     where
       taken :
           {n : ℕ} {l : List ℕ}
@@ -198,24 +198,24 @@ module _ (bs ds : List ℕ) where
           → checker.answer (records bs) (words ds (count bs)) ≡ a
           → DoorCheckSays bs ds (checked bs ds)
       by_answer e check.Accepted q =
-          rw (answered-check bs ds e check.Accepted q)
+          rw (answered_check bs ds e check.Accepted q)
           (says.met (whole bs ds e) (rw q at (check_answers (records bs) (words ds (count bs))).0))
       by_answer e (check.Refused r) q =
-          rw (answered-check bs ds e (check.Refused r) q)
+          rw (answered_check bs ds e (check.Refused r) q)
           (says.refused (whole bs ds e) (rw q at (check_answers (records bs) (words ds (count bs))).0) (not_0 r))
 
   refused_check : {n p : ℕ} {vs : List ℤ} → Whole bs ds → CheckSays (records bs) (words ds (count bs)) (pos n ∷ pos p ∷ vs) → n ≢ 0 → n + 65_536 * p ≡ checked bs ds
   refused_check w h z =
       let v = (check_answers (records bs) (words ds (count bs))).1 _ h in
       let q = check_refuses (checker.answer (records bs) (words ds (count bs))) v z in
-      omega (arith, answered-check bs ds (fits bs ds w) (check.Refused q.0) q.1, q.2, q.3)
+      omega (arith, answered_check bs ds (fits bs ds w) (check.Refused q.0) q.1, q.2, q.3)
 
   check_only : {n : ℕ} → DoorCheckSays bs ds n → n ≡ checked bs ds
   check_only (says.lengths h) = test (fitting bs (length ds)) (λ e. absurd (h (whole bs ds e))) (λ n. sym (unfit_check bs ds n))
   check_only (says.refused w h z) = refused_check w h z
   check_only (says.met w h) =
       sym
-      (answered-check bs ds (fits bs ds w) check.Accepted
+      (answered_check bs ds (fits bs ds w) check.Accepted
       (check_accepts (checker.answer (records bs) (words ds (count bs))) ((check_answers (records bs) (words ds (count bs))).1 _ h)))
 
 pub door_checks : DoorChecks
@@ -258,17 +258,17 @@ read_back bs ds a =
 -- What the door wrote, read back, are the deadlines of an accepted set.
 pub door_hands_on : (bs out : List ℕ) → assigned bs (length out) ≡ 0 → Assigned (records bs) (words (assigned_bytes bs out) (count bs))
 door_hands_on bs out z =
-    let w = door-placed bs out z in
+    let w = door_placed bs out z in
     let ds = olda.results (records bs) (room bs) in
     rw (w.2, (read_back bs ds w.1).1) w.1
 
 pub door_agrees : DoorAgrees
 door_agrees bs out z =
-    let w = door-placed bs out z in
+    let w = door_placed bs out z in
     let s = records bs in
     let ds = olda.results s (room bs) in
     let back = read_back bs ds w.1 in
     let same : length (encoded ds) ≡ length out = omega (arith, length-encoded ds, back.0, w.0.1) in
     rw w.2
-    (answered-check bs (encoded ds) (fits bs (encoded ds) (w.0.0, same ∙ w.0.1)) check.Accepted
+    (answered_check bs (encoded ds) (fits bs (encoded ds) (w.0.0, same ∙ w.0.1)) check.Accepted
     (check_taken (checker.answer s (words (encoded ds) (count bs))) (rw back.1 (checker_agrees s ds w.1))))

@@ -20,13 +20,13 @@ use Rattle.subjobs.proofs.Bounds.{lower_order}
 use Rattle.rules.specs.Method.{in_order}
 use Rattle.rules.specs.Rules.{Accepts, over, place, Accepted}
 use Rattle.rules.proofs.Tails.{base_in}
-use Rattle.rules.proofs.ReleaseOrder.{inorder-inOrder, nodup-inOrder, same-inOrder, inOrder-below, below-inOrder}
-use Rattle.rules.proofs.Rules.{Ones, ones_without, turn_step, same-accepts}
-use Rattle.rules.proofs.Accepted.{accepted-falls}
+use Rattle.rules.proofs.ReleaseOrder.{inorder_in_order, nodup_in_order, same_in_order, in_order-below, below_in_order}
+use Rattle.rules.proofs.Rules.{Ones, ones_without, turn_step, same_accepts}
+use Rattle.rules.proofs.Accepted.{accepted_falls}
 use Rattle.lists.proofs.Rearranged.{same_sym}
 use Rattle.ticks.specs.Core.{served}
 use Rattle.ticks.specs.Runs.{due, served_before, load, finish, run}
-use Rattle.ticks.proofs.Service.{counters, served_is_active, served-most}
+use Rattle.ticks.proofs.Service.{counters, served_is_active, served_most}
 use Rattle.ticks.proofs.Finishes.{finish_by}
 use Rattle.ticks.proofs.Ticks.{run_length, finish_at}
 use Rattle.ticks.proofs.Sooner.{sooner_order, sooner_by, sooner_total}
@@ -48,7 +48,7 @@ module _ (T : Terms) (o : Order T.lower) (d : ℕ → ℕ) (lt : ℕ → ℕ →
             (λ y.
             inr
             (before i b
-            (accepted-falls T o xs b ones t a (in_without b xs (base_in T.release T.execution xs m) (λ q. omega tests))))),
+            (accepted_falls T o xs b ones t a (in_without b xs (base_in T.release T.execution xs m) (λ q. omega tests))))),
       )
       w.1 (peeled (inorder_filter T.release (λ i. not (eqb i b)) xs s) (ones_without T.execution b xs ones) a)
 
@@ -67,30 +67,30 @@ module _
   sorted = in_order (release s) (places (size s))
 
   below : {i : ℕ} → Memᴰ i sorted → i < size s
-  below m = inOrder-below (release s) (size s) m
+  below m = in_order-below (release s) (size s) m
 
   ready : Ready (terms s) (served_before s ds) sorted
   ready =
       let total = sooner_total d s fit.pairs in
       record {
         ones = λ i m. (fit.ranges i (below m)).some;
-        sorted = inorder-inOrder (release s) (size s);
-        counters = record { small = λ i m. omega (arith, below m, fit.few); once = nodup-inOrder (release s) (size s) };
+        sorted = inorder_in_order (release s) (size s);
+        counters = record { small = λ i m. omega (arith, below m, fit.few); once = nodup_in_order (release s) (size s) };
         total = λ i j p q. total i j (in_places (size s) i (below p)) (in_places (size s) j (below q));
       }
 
   ends : Peel (terms s) (served_before s ds) d sorted
   ends =
-      peeled (terms s) (lower_order s) d (served_before s ds) (sooner_by d (job s) (subtask s)) (inorder-inOrder (release s) (size s))
+      peeled (terms s) (lower_order s) d (served_before s ds) (sooner_by d (job s) (subtask s)) (inorder_in_order (release s) (size s))
       ready.ones
-      (same-accepts (terms s) (places (size s)) sorted (same_sym sorted (places (size s)) (same-inOrder (release s) (size s))) accepted)
+      (same_accepts (terms s) (places (size s)) sorted (same_sym sorted (places (size s)) (same_in_order (release s) (size s))) accepted)
 
   -- The core does not hang on its list's order, and owes each its whole execution.
   alike : (t i : ℕ) → i < size s → served (core (terms s) (served_before s ds) sorted) t i ≡ served (load s ds asks) t i
   alike t i h =
       served_alike (core (terms s) (served_before s ds) sorted) (due s asks) (places (size s)) (counters s ds asks fit.few)
       ready.counters (sooner_order d (job s) (subtask s)) ready.total
-      (λ j q. below-inOrder (release s) (size s) j (places_in (size s) j q))
+      (λ j q. below_in_order (release s) (size s) j (places_in (size s) j q))
       (λ j q. omega (arith, whole j (places_in (size s) j q)))
       (λ u b e. inl (in_places (size s) b (below (served_is_active (core (terms s) (served_before s ds) sorted) u e).0)))
       t i (in_places (size s) i h)
@@ -103,8 +103,8 @@ module _
       let one = (fit.ranges i h).some in
       let f = finish L i in
       let over = finish_by L K i (in_places (size s) i h) (omega arith) in
-      let on = exact (terms s) (served_before s ds) d (sooner_order d (job s) (subtask s)) ready ends i (below-inOrder (release s) (size s) i h) in
-      let most = served-most L K (d i) i in
+      let on = exact (terms s) (served_before s ds) d (sooner_order d (job s) (subtask s)) ready ends i (below_in_order (release s) (size s) i h) in
+      let most = served_most L K (d i) i in
       omega (
         arith,
         (over (d i)).1 (omega (arith, alike (d i) i h, (on (d i)).0 (omega arith))),

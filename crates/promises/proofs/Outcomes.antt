@@ -28,9 +28,9 @@ use Rattle.promises.proofs.Faulted.{faulted, refused_number}
 use Rattle.promises.proofs.Assign.{assign_answers, assign_keeps, assigned_rules, placed-answer}
 use Rattle.promises.proofs.Simulate.{simulate_answers}
 use Rattle.promises.proofs.Critical.{critical_keeps, critical_writes}
-use Rattle.promises.proofs.Door.{door_keeps, door-placed}
-use Rattle.promises.proofs.Rooms.{room-keeps, room_writes}
-use Rattle.promises.proofs.RoomDoor.{room-door-keeps}
+use Rattle.promises.proofs.Door.{door_keeps, door_placed}
+use Rattle.promises.proofs.Rooms.{room_keeps, room_writes}
+use Rattle.promises.proofs.RoomDoor.{room_door_keeps}
 use Rattle.promises.proofs.CriticalDoor.{graph_keeps, graph_writes}
 
 -- A refusal of the simulator leaves list and totals.
@@ -82,17 +82,17 @@ door_writes :
     → length old ≡ length out
     → (door.assigned_bytes bs out ≡ door.assigned_bytes bs old) × (length (door.assigned_bytes bs out) ≡ length out)
 door_writes bs out old z l =
-    ((door-placed bs out z).2 ∙ sym (door-placed bs old (rw l z)).2, assigned_length bs out)
+    ((door_placed bs out z).2 ∙ sym (door_placed bs old (rw l z)).2, assigned_length bs out)
 
 pub refused_keeps : RefusedKeeps
 refused_keeps = (
   λ s out n. assign_keeps s out (assign_answers s out).0 n,
   λ s ds asks fs t n. simulate_keeps s ds asks fs t (simulate_answers s ds asks fs t).0 n,
   critical_keeps,
-  room-keeps,
+  room_keeps,
   λ bs out z. door_keeps bs out z,
   λ es bs out z. graph_keeps es bs out z,
-  room-door-keeps,
+  room_door_keeps,
 )
 
 pub writes_all : WritesAll

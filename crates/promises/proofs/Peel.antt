@@ -22,13 +22,13 @@ use Rattle.lists.proofs.Members.{in_nil, in_filter, in_without, without_in, nodu
 use Rattle.lists.proofs.Sums.{least_le}
 use Rattle.lists.proofs.Choice.{Order, Total}
 use Rattle.subjobs.specs.Terms.{Terms}
-use Rattle.rules.proofs.Tails.{base_in, base-threshold, late_room}
-use Rattle.rules.proofs.Gap.{gap, early-room}
+use Rattle.rules.proofs.Tails.{base_in, base_threshold, late_room}
+use Rattle.rules.proofs.Gap.{gap, early_room}
 use Rattle.rules.proofs.Rules.{best_of, base_of}
 use Rattle.ticks.specs.Core.{Load, served, turn}
 use Rattle.ticks.specs.Runs.{load_of}
-use Rattle.ticks.proofs.Service.{Counters, served-start, served_is_active, served-first, tick-cases, served-grows}
-use Rattle.ticks.proofs.Groups.{since, Leads, leads_tended, group-done, done_later}
+use Rattle.ticks.proofs.Service.{Counters, served-start, served_is_active, served_first, tick_cases, served_grows}
+use Rattle.ticks.proofs.Groups.{since, Leads, leads_tended, group_done, done_later}
 use Rattle.ticks.proofs.Alone.{served_alike}
 use Rattle.ticks.proofs.Converse.{served_since}
 
@@ -68,7 +68,7 @@ module _ (T : Terms) (lt : ℕ → ℕ → Bool) where
 
   module _ (ord : Order lt) (xs : List ℕ) (g : Ready T lt xs) where
     -- A group that leads and has room until D is done from D on.
-    done-from :
+    done_from :
         (h : ℕ → Bool) (D : ℕ)
         → ((t : ℕ) → t < D → Leads (core T lt xs) h t)
         → ((a : ℕ) → weight T.execution (since (core T lt xs) h a) ≤ D - a)
@@ -77,29 +77,29 @@ module _ (T : Terms) (lt : ℕ → ℕ → Bool) where
         → h i ≡ true
         → D ≤ t
         → T.execution i ≤ served (core T lt xs) t i
-    done-from h D leads fits t i m u k =
+    done_from h D leads fits t i m u k =
         let L = core T lt xs in
-        let e = group-done L h g.counters D (λ v l. leads_tended L h ord v (leads v l)) fits i m u in
+        let e = group_done L h g.counters D (λ v l. leads_tended L h ord v (leads v l)) fits i m u in
         omega (arith, done_later L g.counters D t i k (omega arith))
 
     -- Everybody is done at the best.
-    all-by : (t i : ℕ) → Memᴰ i xs → best_of T xs ≤ t → T.execution i ≤ served (core T lt xs) t i
-    all-by t i m h =
-        done-from (λ j. true) (best_of T xs) (λ u l a b p q y n. clash y n) (λ a. late_room T.release T.execution a xs) t i m
+    all_by : (t i : ℕ) → Memᴰ i xs → best_of T xs ≤ t → T.execution i ≤ served (core T lt xs) t i
+    all_by t i m h =
+        done_from (λ j. true) (best_of T xs) (λ u l a b p q y n. clash y n) (λ a. late_room T.release T.execution a xs) t i m
         refl h
 
     -- Those released before the base are done when it starts.
     early : (t i : ℕ) → Memᴰ i xs → T.release i < begins xs → begins xs ≤ t → T.execution i ≤ served (core T lt xs) t i
     early t i m k h =
-        done-from (λ j. ltb (T.release j) (begins xs)) (begins xs)
+        done_from (λ j. ltb (T.release j) (begins xs)) (begins xs)
         (λ u l a b p q y n z. absurd (omega tests))
-        (early-room T.release T.execution xs g.sorted g.ones) t i m (omega tested) h
+        (early_room T.release T.execution xs g.sorted g.ones) t i m (omega tested) h
 
     -- The base is served one tick a tick, from its start on.
     got : (t : ℕ) → weight (served (core T lt xs) t) (base_of T xs) ≤ t - begins xs
     got t =
         subst (λ (ys : List ℕ). weight (served (core T lt xs) t) ys ≤ t - least T.release ys)
-        (sym (base-threshold T.release T.execution xs g.sorted g.ones))
+        (sym (base_threshold T.release T.execution xs g.sorted g.ones))
         (served_since (core T lt xs) g.counters (λ i. leb (begins xs) (T.release i)) t)
 
     module _ (b : ℕ) (l : Last lt (base_of T xs) b) where
@@ -125,19 +125,19 @@ module _ (T : Terms) (lt : ℕ → ℕ → Bool) where
           (λ q. absurd (n q))
           (λ before.
           test (ltb (served (core T lt xs) t i) (T.execution i))
-          (λ k. clash before (served-first (core T lt xs) ord t e m h (omega tests)))
+          (λ k. clash before (served_first (core T lt xs) ord t e m h (omega tests)))
           (λ k. omega tests)))
         where
           late : (i : ℕ) → Memᴰ i xs → begins xs ≤ T.release i → Memᴰ i (base_of T xs)
           late i m h =
-              rw (base-threshold T.release T.execution xs g.sorted g.ones)
+              rw (base_threshold T.release T.execution xs g.sorted g.ones)
               (in_filter (λ j. leb (begins xs) (T.release j)) xs m (le-leb (begins xs) (T.release i) h))
 
       -- The last of the base is not done before the best.
       last : (t : ℕ) → T.execution b ≤ served (core T lt xs) t b → best_of T xs ≤ t
       last zero h = absurd (omega (arith, served-start (core T lt xs) b, g.ones b member))
       last (suc t) h =
-          split (tick-cases (core T lt xs) g.counters t b)
+          split (tick_cases (core T lt xs) g.counters t b)
           (λ q.
           let s = least_le T.release (base_of T xs) l.0 in
           let a = (served_is_active (core T lt xs) t q.0).1 in
@@ -150,7 +150,7 @@ module _ (T : Terms) (lt : ℕ → ℕ → Bool) where
           omega (
             arith,
             alone t q.0 i (base_in T.release T.execution xs m) (λ z. omega tests) (omega arith),
-            served-grows (core T lt xs) g.counters t i,
+            served_grows (core T lt xs) g.counters t i,
           ))))
           (λ q. omega (arith, last t (omega arith)))
 
@@ -178,7 +178,7 @@ module _ (T : Terms) (lt : ℕ → ℕ → Bool) where
         (λ y.
         let z : i ≡ b = omega tests in
         rw z (
-          (λ h. all-by ord xs g t b (member ord xs g b l) (omega arith)),
+          (λ h. all_by ord xs g t b (member ord xs g b l) (omega arith)),
           (λ h. omega (arith, last ord xs g b l t h)),
         ))
         (λ y.

@@ -27,15 +27,15 @@ use Rattle.subjobs.proofs.Rearranging.{Alike, rearranged-size, rearranged_alike,
 use Rattle.rules.specs.Method.{Outcome, placed, stuck, method}
 use Rattle.rules.proofs.Obeys.{method-placed}
 use Rattle.rules.proofs.Slack.{least_slack_one}
-use Rattle.rules.proofs.Renaming.{renamed-least-slack}
+use Rattle.rules.proofs.Renaming.{renamed_least_slack}
 use Rattle.rules.proofs.Rearranging.{alike_renamed, method_moved, method_stays}
 use Rattle.olda.specs.Answers.{answer, results, values}
-use Rattle.olda.proofs.Results.{fit-inside}
+use Rattle.olda.proofs.Results.{fit_inside}
 use Rattle.promises.specs.Words.{refusal, at}
 use Rattle.promises.specs.Assign.{Reported, results_fit}
 use Rattle.promises.specs.Reordering as says
 use Rattle.promises.specs.Reordering.{AssignMoves, AssignReorders}
-use Rattle.promises.proofs.Assign.{nil, report_none, report-some, chosen-reported, refused_answer, placed-answer, stuck-answer}
+use Rattle.promises.proofs.Assign.{nil, report_none, report-some, chosen_reported, refused_answer, placed-answer, stuck-answer}
 
 -- What is refused by 1 to 4 has the values of such a refusal, and not number 1 where the lists are of one length.
 told :
@@ -74,22 +74,22 @@ module _ (s : Subjobs) (ps : List ℕ) (r : Rearranges ps (size s)) where
   back = alike_back (rearranged_alike ps s r)
 
   module _ (out out' : List ℕ) (e : length out' ≡ length out) where
-    fits-alike : results_fit s' out' ≡ results_fit s out
-    fits-alike = rw (e, rearranged-size ps s r)
+    fits_alike : results_fit s' out' ≡ results_fit s out
+    fits_alike = rw (e, rearranged-size ps s r)
 
     abbrev Moves : Type 0
     Moves = AssignMoves s ps out' (values (answer s (length out))) (results s out) (values (answer s' (length out'))) (results s' out')
 
     module _ (f : Fit s (results_fit s out)) where
-      fit-moved : Fit s' (results_fit s' out')
-      fit-moved = rw fits-alike (rearranged_fit ps s r f)
+      fit_moved : Fit s' (results_fit s' out')
+      fit_moved = rw fits_alike (rearranged_fit ps s r f)
 
-      late-moves : (p m : ℕ) → method s ≡ stuck p m → Moves
-      late-moves p m q =
-          let h = fit-inside s f p m q in
+      late_moves : (p m : ℕ) → method s ≡ stuck p m → Moves
+      late_moves p m q =
+          let h = fit_inside s f p m q in
           let k = in_places (size s) p h in
           let a = stuck-answer s out f p m q in
-          let b = stuck-answer s' out' fit-moved (standing ps p) m (method_stays ps s r f p m q) in
+          let b = stuck-answer s' out' fit_moved (standing ps p) m (method_stays ps s r f p m q) in
           let same : bound (terms s') (standing ps p) ≡ bound (terms s) p = rw (back.deadline p k, back.critical p k) in
           let now = rearranged_stands ps s r p h in
           rw (a.0, a.1, b.0, b.1, same) (says.late {p' = standing ps p} now.0 now.1)
@@ -97,7 +97,7 @@ module _ (s : Subjobs) (ps : List ℕ) (r : Rearranges ps (size s)) where
       placed_moves : (ds : List ℕ) → method s ≡ placed ds → Moves
       placed_moves ds q =
           let a = placed-answer s out f ds q in
-          let b = placed-answer s' out' fit-moved (taken ps ds) (method_moved ps s r f ds q) in
+          let b = placed-answer s' out' fit_moved (taken ps ds) (method_moved ps s r f ds q) in
           split (choose_cases (by_slack (terms s) (at ds)) (places (size s)))
           (λ w.
           let z = places-nil (size s) w.0 in
@@ -116,10 +116,10 @@ module _ (s : Subjobs) (ps : List ℕ) (r : Rearranges ps (size s)) where
           split (choose_cases (by_slack (terms s') (at (taken ps ds))) (places (size s')))
           (λ w'. absurd (omega (arith, places-nil (size s') w'.0, rearranged-size ps s r, places_in (size s) w.0 w.1)))
           (λ w'.
-          let c = chosen-reported s' (taken ps ds) w'.2 in
+          let c = chosen_reported s' (taken ps ds) w'.2 in
           let same : slack (terms s') (at (taken ps ds)) w'.0 ≡ slack (terms s) (at ds) w.0 =
           least_slack_one (terms s') (at (taken ps ds)) (places (size s')) c.0
-          (renamed-least-slack (alike_renamed back) (at ds) (at (taken ps ds)) (taken_back ps s r ds) _ (chosen-reported s ds w.2).0)
+          (renamed_least_slack (alike_renamed back) (at ds) (at (taken ps ds)) (taken_back ps s r ds) _ (chosen_reported s ds w.2).0)
           in
           rw (a.0, a.1, b.0, b.1, report-some s ds w.0 w.2, report-some s' (taken ps ds) w'.0 w'.2, same)
           (says.placed (subst (λ (x : ℤ). Reported s' (taken ps ds) w'.0 x) same c))))
@@ -127,18 +127,18 @@ module _ (s : Subjobs) (ps : List ℕ) (r : Rearranges ps (size s)) where
 pub assign_reorders : AssignReorders
 assign_reorders s ps out out' l e r =
     split (fit.judged s (results_fit s out)).holds
-    (λ f. by-method f (method s) refl)
+    (λ f. by_method f (method s) refl)
     (λ q.
     let w = faulty_moves s ps r (results_fit s out) q.0 l q.1 in
     let a = refused_answer s out ((fit.judged_exactly s (results_fit s out) q.0).1 q.1) in
-    let b = refused_answer (rearranged ps s) out' {r = w.0} (rw (fits-alike s ps r out out' e) w.1) in
+    let b = refused_answer (rearranged ps s) out' {r = w.0} (rw (fits_alike s ps r out out' e) w.1) in
     let v = w.2 in
     rw (a.0, a.1, b.0, b.1, v.5, v.6) (says.faulty v.7 v.8))
   where
-    by-method :
+    by_method :
         Fit s (results_fit s out)
         → (w : Outcome)
         → method s ≡ w
         → Moves s ps r out out' e
-    by-method f (stuck p m) q = late-moves s ps r out out' e f p m q
-    by-method f (placed ds) q = placed_moves s ps r out out' e f ds q
+    by_method f (stuck p m) q = late_moves s ps r out out' e f p m q
+    by_method f (placed ds) q = placed_moves s ps r out out' e f ds q

@@ -21,8 +21,8 @@ use Rattle.subjobs.specs.Judging.{or_else, if_passed}
 use Rattle.subjobs.specs.Faults.{OneLength, Fit, Faulty}
 use Rattle.subjobs.proofs.Exactly.{SameNumber, pass, refuse, same_or, same_exactly}
 use Rattle.subjobs.proofs.Fit as fit
-use Rattle.subjobs.proofs.Rearranging.{rearranged-size, rearranged_alike, rearranged_fit, rearranged_judged, alike_back, alike_inside, taken-there, taken_back}
-use Rattle.rules.proofs.Renaming.{renamed-six}
+use Rattle.subjobs.proofs.Rearranging.{rearranged-size, rearranged_alike, rearranged_fit, rearranged_judged, alike_back, alike_inside, taken_there, taken_back}
+use Rattle.rules.proofs.Renaming.{renamed_six}
 use Rattle.rules.proofs.Rearranging.{alike_renamed}
 use Rattle.edf.specs.declared.Totals.{Totals}
 use Rattle.edf.specs.Answers as edf
@@ -36,7 +36,7 @@ use Rattle.promises.specs.Words.{Number, at}
 use Rattle.promises.specs.Check.{proposed_fit}
 use Rattle.promises.specs.Reordering as says
 use Rattle.promises.specs.Reordering.{SimulateMoves, SimulateReorders, CheckReorders}
-use Rattle.promises.proofs.Simulate.{refused_leaves, above-leaves, ran-leaves}
+use Rattle.promises.proofs.Simulate.{refused_leaves, above_leaves, ran_leaves}
 use Rattle.promises.proofs.Reordering.{faulty_moves}
 
 -- The simulator: the run of the rearranged set is the rearranged run.
@@ -55,8 +55,8 @@ module _ (s : Subjobs) (ps ds asks fs fs' : List ℕ) (t : Totals) (r : Rearrang
       (edf.totals (rearranged ps s) ds' asks' (length fs') t)
 
   module _ (l : OneLength s (further_lists s ds asks (length fs))) where
-    further-alike : further_lists (rearranged ps s) ds' asks' (length fs') ≡ further_lists s ds asks (length fs)
-    further-alike =
+    further_alike : further_lists (rearranged ps s) ds' asks' (length fs') ≡ further_lists s ds asks (length fs)
+    further_alike =
         let n = size s in
         let last : eqb (length fs) n ≡ true =
         (both {a = eqb (length ds) n && eqb (length asks) n} {b = eqb (length fs) n} l.further).1
@@ -67,42 +67,42 @@ module _ (s : Subjobs) (ps ds asks fs fs' : List ℕ) (t : Totals) (r : Rearrang
         all ∙ sym l.further
 
     -- Refused by 1 to 4.
-    refused-moves : (q : Reason) → Faulty s (further_lists s ds asks (length fs)) q → Moved
-    refused-moves q h =
+    refused_moves : (q : Reason) → Faulty s (further_lists s ds asks (length fs)) q → Moved
+    refused_moves q h =
         let w = faulty_moves s ps r (further_lists s ds asks (length fs)) q l h in
         let a = refused_leaves s ds asks fs t ((fit.judged_exactly s (further_lists s ds asks (length fs)) q).1 h) in
-        let b = refused_leaves (rearranged ps s) ds' asks' fs' t {r = w.0} (rw further-alike w.1) in
+        let b = refused_leaves (rearranged ps s) ds' asks' fs' t {r = w.0} (rw further_alike w.1) in
         let v = w.2 in
         rw (a.0, a.1, a.2, b.0, b.1, b.2, v.5, v.6) (says.faulty v.7 v.8)
 
     -- The run is accepted, or refused by 8: by its ticks, which are the same.
     module _ (f : Fit s (further_lists s ds asks (length fs))) where
-      fit-alike : Fit (rearranged ps s) (further_lists (rearranged ps s) ds' asks' (length fs'))
-      fit-alike = rw further-alike (rearranged_fit ps s r f)
+      fit_alike : Fit (rearranged ps s) (further_lists (rearranged ps s) ds' asks' (length fs'))
+      fit_alike = rw further_alike (rearranged_fit ps s r f)
 
       moved : run (rearranged ps s) ds' asks' ≡ moved_run ps (run s ds asks)
       moved = run_moved ps s r ds asks f
 
-      above-alike : above (added (run (rearranged ps s) ds' asks') t) ≡ above (added (run s ds asks) t)
-      above-alike = ap (λ (R : Run). above (added R t)) moved
+      above_alike : above (added (run (rearranged ps s) ds' asks') t) ≡ above (added (run s ds asks) t)
+      above_alike = ap (λ (R : Run). above (added R t)) moved
 
-      run-moves : Moved
-      run-moves =
+      run_moves : Moved
+      run_moves =
           test (above (added (run s ds asks) t))
           (λ y.
-          let a = above-leaves s ds asks fs t f y in
-          let b = above-leaves (rearranged ps s) ds' asks' fs' t fit-alike (above-alike ∙ y) in
+          let a = above_leaves s ds asks fs t f y in
+          let b = above_leaves (rearranged ps s) ds' asks' fs' t fit_alike (above_alike ∙ y) in
           rw (a.0, a.1, a.2, b.0, b.1, b.2) says.above)
           (λ n.
-          let a = ran-leaves s ds asks fs t f n in
-          let b = ran-leaves (rearranged ps s) ds' asks' fs' t fit-alike (above-alike ∙ n) in
+          let a = ran_leaves s ds asks fs t f n in
+          let b = ran_leaves (rearranged ps s) ds' asks' fs' t fit_alike (above_alike ∙ n) in
           rw (a.0, a.1, a.2, b.0, b.1, b.2, moved) says.ran)
 
 pub simulate_reorders : SimulateReorders
 simulate_reorders s ps ds asks fs fs' t l e r =
     split (fit.judged s (further_lists s ds asks (length fs))).holds
-    (λ f. run-moves s ps ds asks fs fs' t r e l f)
-    (λ q. refused-moves s ps ds asks fs fs' t r e l q.0 q.1)
+    (λ f. run_moves s ps ds asks fs fs' t r e l f)
+    (λ q. refused_moves s ps ds asks fs fs' t r e l q.0 q.1)
 
 -- The checker: 1 to 4 as above, then 6 and 7, each for some place exactly if it is for some place.
 module _ (s : Subjobs) (ps ds : List ℕ) (l : OneLength s (proposed_fit s ds)) (r : Rearranges ps (size s)) where
@@ -123,10 +123,10 @@ module _ (s : Subjobs) (ps ds : List ℕ) (l : OneLength s (proposed_fit s ds)) 
       let e = rearranged_alike ps s r in
       same_exactly 6 (six_exactly s ds) (six_exactly new proposed)
       (λ h i b.
-      renamed-six (alike_renamed (alike_back e)) (at ds) (at proposed) (taken_back ps s r ds) (λ j m. h j (places_in (size s) j m)) i
+      renamed_six (alike_renamed (alike_back e)) (at ds) (at proposed) (taken_back ps s r ds) (λ j m. h j (places_in (size s) j m)) i
       (in_places (size new) i b))
       (λ h i b.
-      renamed-six (alike_renamed e) (at proposed) (at ds) (taken-there ps s r ds) (λ j m. h j (places_in (size new) j m)) i
+      renamed_six (alike_renamed e) (at proposed) (at ds) (taken_there ps s r ds) (λ j m. h j (places_in (size new) j m)) i
       (in_places (size s) i b))
       (λ q w. ap number_of w.3.0) (λ q w. ap number_of w.3.0)
 
@@ -142,8 +142,8 @@ module _ (s : Subjobs) (ps ds : List ℕ) (l : OneLength s (proposed_fit s ds)) 
       omega (
         arith,
         ap (λ (xs : List ℕ). get_or xs i 0) same,
-        taken-there ps s r F i m,
-        taken-there ps s r ds i m,
+        taken_there ps s r F i m,
+        taken_there ps s r ds i m,
         h (get_or ps i 0) (alike_inside e i b),
       ))
       (λ h i b.
@@ -157,10 +157,10 @@ module _ (s : Subjobs) (ps ds : List ℕ) (l : OneLength s (proposed_fit s ds)) 
       ))
       (λ q w. ap number_of w.3.0) (λ q w. ap number_of w.3.0)
 
-  checked-alike :
+  checked_alike :
       SameNumber (or_else (checker.judged s ds) (or_else (checker.six s ds) (checker.seven s ds)))
       (or_else (checker.judged new proposed) (or_else (checker.six new proposed) (checker.seven new proposed)))
-  checked-alike =
+  checked_alike =
       same_or {a' = checker.judged new proposed} (rw proposed_alike (rearranged_judged ps s r (proposed_fit s ds) l))
       (λ p. same_or six_alike (λ q. seven_alike (fit.fit s (proposed_fit s ds) p)))
 
@@ -175,4 +175,4 @@ number_alike n (refuse e) h = ap pos (sym e) ∙ h
 
 pub check_reorders : CheckReorders
 unfolding checker.answer
-check_reorders s ps ds l r n h = number_alike n (checked-alike s ps ds l r) h
+check_reorders s ps ds l r n h = number_alike n (checked_alike s ps ds l r) h

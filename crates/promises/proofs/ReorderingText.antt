@@ -15,15 +15,15 @@ use Rattle.subjobs.specs.Faults as faults
 use Rattle.subjobs.specs.Faults.{Fit, Faulty}
 use Rattle.subjobs.proofs.Exactly.{same_refused}
 use Rattle.subjobs.proofs.Fit.{judged, judged_exactly}
-use Rattle.subjobs.proofs.Rearranging.{rearranged-size, rearranged_alike, rearranged_stands, rearranged_fit, rearranged_judged, taken-there}
+use Rattle.subjobs.proofs.Rearranging.{rearranged-size, rearranged_alike, rearranged_stands, rearranged_fit, rearranged_judged, taken_there}
 use Rattle.rules.specs.Rules.{RefusedAt}
 use Rattle.rules.specs.Method.{Outcome, placed, stuck, method}
 use Rattle.rules.proofs.Obeys.{method-stuck}
-use Rattle.rules.proofs.Renaming.{renamed-slack}
+use Rattle.rules.proofs.Renaming.{renamed_slack}
 use Rattle.rules.proofs.Rearranging.{alike_renamed, method_moved, method_stays}
 use Rattle.ticks.specs.Runs.{Run, run}
 use Rattle.ticks.proofs.Rearranging.{run_moved}
-use Rattle.olda.proofs.Results.{fit-inside}
+use Rattle.olda.proofs.Results.{fit_inside}
 use Rattle.table.specs.Format.{Rows}
 use Rattle.table.specs.Reading.{column, set_of}
 use Rattle.table.specs.Writing.{out_header}
@@ -83,11 +83,11 @@ fault_line t w (faults.pair p j l m a h b k e) =
 
 module _ (s : Subjobs) (ps : List ℕ) (r : Rearranges ps (size s)) (f : Fit s true) where
   -- The line of a sub-job is the same wherever it stands.
-  line-moved :
+  line_moved :
       (ds : List ℕ) (i : ℕ)
       → Memᴰ i (places (size (rearranged ps s)))
       → printed_line (rearranged ps s) (taken ps ds) i ≡ printed_line s ds (get_or ps i 0)
-  line-moved ds i m =
+  line_moved ds i m =
       let e = rearranged_alike ps s r in
       let F : List ℕ = (run s ds s.executions).finishes in
       let ran : (run (rearranged ps s) (taken ps ds) (rearranged ps s).executions).finishes ≡ taken ps F =
@@ -97,16 +97,16 @@ module _ (s : Subjobs) (ps : List ℕ) (r : Rearranges ps (size s)) (f : Fit s t
         ran,
         e.job i m,
         e.subtask i m,
-        taken-there ps s r F i m,
-        renamed-slack (alike_renamed e) (at (taken ps ds)) (at ds) (taken-there ps s r ds) i m,
-        taken-there ps s r ds i m,
+        taken_there ps s r F i m,
+        renamed_slack (alike_renamed e) (at (taken ps ds)) (at ds) (taken_there ps s r ds) i m,
+        taken_there ps s r ds i m,
       )
 
   printed_moved : (ds : List ℕ) → printed (rearranged ps s) (taken ps ds) ≡ out_header ++ joined (printed_line s ds) ps
   printed_moved ds =
       let n = rearranged-size ps s r in
       ap (λ (l : List ℕ). out_header ++ l)
-      (joined_moved (printed_line s ds) (printed_line (rearranged ps s) (taken ps ds)) (λ i. get_or ps i 0) (places (size (rearranged ps s))) (line-moved ds)
+      (joined_moved (printed_line s ds) (printed_line (rearranged ps s) (taken ps ds)) (λ i. get_or ps i 0) (places (size (rearranged ps s))) (line_moved ds)
       ∙ ap (λ (m : ℕ). joined (printed_line s ds) (map (λ i. get_or ps i 0) (places m))) n
       ∙ ap (joined (printed_line s ds)) (rearranges_places ps (size s) r))
 
@@ -125,35 +125,35 @@ module _ (t t' : List ℕ) (rows : Rows) (ps : List ℕ) (w : Tabled t rows) (w'
       rw (a.1, b.1, ← v.2) (says.faulty (number_of q) a.0 b.0 a.2 a.3)
 
   module _ (f : Fit s true) where
-    fit-moved : Fit (rearranged ps s) true
-    fit-moved = rearranged_fit ps s r f
+    fit_moved : Fit (rearranged ps s) true
+    fit_moved = rearranged_fit ps s r f
 
-    late-moves : (p m : ℕ) → method s ≡ stuck p m → TableMoves s ps (answer t) (answer t')
-    late-moves p m q =
+    late_moves : (p m : ℕ) → method s ≡ stuck p m → TableMoves s ps (answer t) (answer t')
+    late_moves p m q =
         let a = (table_answers t).1 _ (text.late w f ((method-stuck s f p m).0 q)) in
         let refused =
         subst (λ (z : Subjobs). RefusedAt z (standing ps p) m) (sym same)
-        ((method-stuck (rearranged ps s) fit-moved (standing ps p) m).0 (method_stays ps s r f p m q))
+        ((method-stuck (rearranged ps s) fit_moved (standing ps p) m).0 (method_stays ps s r f p m q))
         in
-        let b = (table_answers t').1 _ (text.late w' (rw same fit-moved) refused) in
-        let now = rearranged_stands ps s r p (fit-inside s f p m q) in
+        let b = (table_answers t').1 _ (text.late w' (rw same fit_moved) refused) in
+        let now = rearranged_stands ps s r p (fit_inside s f p m q) in
         rw (← a, ← b) (says.late p (standing ps p) now.0 now.1)
 
     placed_moves : (ds : List ℕ) → method s ≡ placed ds → TableMoves s ps (answer t) (answer t')
     placed_moves ds q =
         let a = (table_answers t).1 _ (text.accepted w (gives s f q)) in
-        let g : Assigned (set_of (rows_in ps rows)) (taken ps ds) = rw same (gives (rearranged ps s) fit-moved (method_moved ps s r f ds q)) in
+        let g : Assigned (set_of (rows_in ps rows)) (taken ps ds) = rw same (gives (rearranged ps s) fit_moved (method_moved ps s r f ds q)) in
         let b = (table_answers t').1 _ (text.accepted w' g) in
         let lines = ap (λ (z : Subjobs). printed z (taken ps ds)) same ∙ printed_moved s ps r f ds in
         rw (← a, ← b, lines) (says.accepted ds)
 
-    by-method : (v : Outcome) → method s ≡ v → TableMoves s ps (answer t) (answer t')
-    by-method (stuck p m) q = late-moves p m q
-    by-method (placed ds) q = placed_moves ds q
+    by_method : (v : Outcome) → method s ≡ v → TableMoves s ps (answer t) (answer t')
+    by_method (stuck p m) q = late_moves p m q
+    by_method (placed ds) q = placed_moves ds q
 
 pub table_reorders : TableReorders
 table_reorders t t' rows ps w w' r =
     let k : Rearranges ps (size (set_of rows)) = rw (rows-size rows) r in
     split (judged (set_of rows) true).holds
-    (λ f. by-method t t' rows ps w w' k f (method (set_of rows)) refl)
+    (λ f. by_method t t' rows ps w w' k f (method (set_of rows)) refl)
     (λ q. faulty_moves t t' rows ps w w' k q.0 q.1)

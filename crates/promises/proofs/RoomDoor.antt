@@ -15,13 +15,13 @@ use Rattle.lists.proofs.Cases.{test, clash, both}
 use Rattle.lists.proofs.Sums.{total_left}
 use Rattle.stretches.specs.Stretches.{start, each}
 use Rattle.stretches.specs.Answers.{few}
-use Rattle.stretches.proofs.Stretched.{each-length, each_at, start_left, joined_length, joined-stretch, same_stretches}
+use Rattle.stretches.proofs.Stretched.{each-length, each_at, start_left, joined_length, joined_stretch, same_stretches}
 use Rattle.charoktan.specs.Records.{count, encoded}
 use Rattle.charoktan.specs.Answers.{assigned, assigned_bytes}
 use Rattle.charoktan.specs.Rooms.{RoomBytes, words_of, lengths_of, code_at, bytes_at, fitting_room, roomed, deadline_bytes, number_bytes, place_bytes, RoomsBytes, Stretch}
 use Rattle.charoktan.proofs.Coding.{length-encoded, words-encoded}
 use Rattle.charoktan.proofs.Door.{place_small, assigned_length}
-use Rattle.charoktan.proofs.RoomDoor.{words_length, stretch_long, bytes_long, room-unfit, room-fitted, room-large, room-reads, room-read}
+use Rattle.charoktan.proofs.RoomDoor.{words_length, stretch_long, bytes_long, room_unfit, room_fitted, room_large, room_reads, room_read}
 use Rattle.promises.specs.Words.{at}
 use Rattle.promises.specs.Door as doors
 use Rattle.promises.specs.Door.{Whole, DoorAssignSays}
@@ -50,13 +50,13 @@ module _ (bs out : List ℕ) (w : Whole bs out) where
 
 -- A call whose number is 0 is accepted.
 accepted_code : (bs out : List ℕ) → assigned bs (length out) % 65_536 ≡ 0 → assigned bs (length out) ≡ 0
-accepted_code bs out e = by-says (door_assigns bs out).0 refl e
+accepted_code bs out e = by_says (door_assigns bs out).0 refl e
   where
-    by-says : {c : ℕ} {l : List ℕ} → DoorAssignSays bs out c l → c ≡ assigned bs (length out) → c % 65_536 ≡ 0 → c ≡ 0
-    by-says (doors.lengths n) q e = absurd (omega arith)
-    by-says (doors.refused {n} {p} {vs} {l} w h z) q e =
+    by_says : {c : ℕ} {l : List ℕ} → DoorAssignSays bs out c l → c ≡ assigned bs (length out) → c % 65_536 ≡ 0 → c ≡ 0
+    by_says (doors.lengths n) q e = absurd (omega arith)
+    by_says (doors.refused {n} {p} {vs} {l} w h z) q e =
         let t = (told_apart bs out l n p vs w z).0 h in absurd (z (omega (arith, t.0, q)))
-    by-says (doors.placed w h) q e = refl
+    by_says (doors.placed w h) q e = refl
 
 module _ (B : RoomBytes) where
   abbrev ns : List ℕ
@@ -70,7 +70,7 @@ module _ (B : RoomBytes) where
 
   whole_room : fitted → WholeRoom B
   whole_room e =
-      let w = room-fitted B e in
+      let w = room_fitted B e in
       record { records = whole B.records B.deadlines w.0; lengths = w.1; numbers = w.2; places = w.3; sum = w.4 }
 
   pub room_fits : WholeRoom B → fitted
@@ -92,7 +92,7 @@ module _ (B : RoomBytes) where
     places = each (λ a n. code_at B.records a n / 65_536) 0 ns
 
     after : RoomsBytes B 0 (flatten (each (bytes_at B.records B.deadlines) 0 ns)) (encoded numbers) (encoded places)
-    after = room-read B e f (record { deadlines = refl; numbers = refl; places = refl })
+    after = room_read B e f (record { deadlines = refl; numbers = refl; places = refl })
 
     sets : length ns ≡ length B.lengths / 4
     sets = words_length B.lengths
@@ -105,7 +105,7 @@ module _ (B : RoomBytes) where
 
     pub stretched : (k : ℕ) → k < length ns → Stretch B.records B.deadlines (start ns k) (at ns k)
     stretched k h =
-        let r = room-reads B e f in
+        let r = room_reads B e f in
         record {
           inside = omega (arith, start_left ns k, total_left ns k h, r.sum);
           few = r.lists.few;
@@ -127,47 +127,47 @@ module _ (B : RoomBytes) where
       abbrev found : List ℕ
       found = bytes_of B k B.deadlines
 
-      pub found-long : length found ≡ 4 * at ns k
-      found-long = stretch_long B.records B.deadlines (start ns k) (at ns k) (24 * at ns k) (4 * at ns k) (stretched k h) refl refl
+      pub found_long : length found ≡ 4 * at ns k
+      found_long = stretch_long B.records B.deadlines (start ns k) (at ns k) (24 * at ns k) (4 * at ns k) (stretched k h) refl refl
 
-      pub here-long : length here ≡ 24 * at ns k
-      here-long =
+      pub here_long : length here ≡ 24 * at ns k
+      here_long =
           length-take-le (24 * at ns k) (drop (24 * start ns k) B.records)
           (omega (arith, length-drop (24 * start ns k) B.records, (stretched k h).inside))
 
-      pub here-whole : Whole here found
-      here-whole = (omega (arith, here-long), omega (arith, here-long, found-long))
+      pub here_whole : Whole here found
+      here_whole = (omega (arith, here_long), omega (arith, here_long, found_long))
 
-      code-so : code_at B.records (start ns k) (at ns k) ≡ assigned here (length found)
-      code-so = ap (assigned here) (sym found-long)
+      code_so : code_at B.records (start ns k) (at ns k) ≡ assigned here (length found)
+      code_so = ap (assigned here) (sym found_long)
 
-      pub number-so : at numbers k ≡ assigned here (length found) % 65_536
-      number-so = each_at (λ a n. code_at B.records a n % 65_536) 0 ns k h ∙ ap (λ (c : ℕ). c % 65_536) code-so
+      pub number_so : at numbers k ≡ assigned here (length found) % 65_536
+      number_so = each_at (λ a n. code_at B.records a n % 65_536) 0 ns k h ∙ ap (λ (c : ℕ). c % 65_536) code_so
 
-      pub place-so : at places k ≡ assigned here (length found) / 65_536
-      place-so = each_at (λ a n. code_at B.records a n / 65_536) 0 ns k h ∙ ap (λ (c : ℕ). c / 65_536) code-so
+      pub place_so : at places k ≡ assigned here (length found) / 65_536
+      place_so = each_at (λ a n. code_at B.records a n / 65_536) 0 ns k h ∙ ap (λ (c : ℕ). c / 65_536) code_so
 
-      pub bytes-so : bytes_of B k (deadline_bytes B) ≡ assigned_bytes here found
-      bytes-so = rw (← after.deadlines) (joined-stretch 4 (bytes_at B.records B.deadlines) ns long k h)
+      pub bytes_so : bytes_of B k (deadline_bytes B) ≡ assigned_bytes here found
+      bytes_so = rw (← after.deadlines) (joined_stretch 4 (bytes_at B.records B.deadlines) ns long k h)
 
       says_set : DoorSetSays here found (at numbers k) (at places k) (bytes_of B k (deadline_bytes B))
-      says_set = rw (number-so, place-so, bytes-so) (set_says here found here-whole refl (door_assigns here found).0)
+      says_set = rw (number_so, place_so, bytes_so) (set_says here found here_whole refl (door_assigns here found).0)
 
     -- Numbers and places are read back from their bytes.
-    pub number-words : words_of (number_bytes B) ≡ numbers
-    number-words =
+    pub number_words : words_of (number_bytes B) ≡ numbers
+    number_words =
         let l : length (encoded numbers) / 4 ≡ length numbers = omega (arith, length-encoded numbers) in
         rw (← after.numbers, l)
-        (words-encoded numbers (length numbers) refl (λ k h. omega (arith, number-so k (omega (arith, numbers_length, sets)))))
+        (words-encoded numbers (length numbers) refl (λ k h. omega (arith, number_so k (omega (arith, numbers_length, sets)))))
 
-    pub place-words : words_of (place_bytes B) ≡ places
-    place-words =
+    pub place_words : words_of (place_bytes B) ≡ places
+    place_words =
         let l : length (encoded places) / 4 ≡ length places = omega (arith, length-encoded places) in
         rw (← after.places, l)
         (words-encoded places (length places) refl
         (λ k h.
         let b : k < length ns = omega (arith, places_length, sets) in
-        omega (arith, place-so k b, place_small (here k b) (length (found k b)))))
+        omega (arith, place_so k b, place_small (here k b) (length (found k b)))))
 
   says_so : DoorRoomSays B (roomed B) (deadline_bytes B) (number_bytes B) (place_bytes B)
   says_so =
@@ -181,10 +181,10 @@ module _ (B : RoomBytes) where
       (says.read {out = deadline_bytes B} (numbers e f) (places e f) w (small_room f) (omega (arith, after_length e f, w.sum, w.records.1)) (numbers_length e f) (places_length e f)
       (λ k h. says_set e f k (omega (arith, sets e f)))))
       (λ n.
-      let a = room-large B e n in
+      let a = room_large B e n in
       rw (← a.number, ← a.deadlines, ← a.numbers, ← a.places) (says.large (whole_room e) (λ s. clash (room_small s) n))))
       (λ n.
-      let a = room-unfit B n in
+      let a = room_unfit B n in
       rw (← a.number, ← a.deadlines, ← a.numbers, ← a.places) (says.lengths (λ w. clash (room_fits w) n)))
 
   only :
@@ -193,11 +193,11 @@ module _ (B : RoomBytes) where
   only (says.lengths h) =
       test (fitting_room B.records B.lengths (length B.deadlines) (length B.numbers) (length B.places))
       (λ e. absurd (h (whole_room e)))
-      (λ n. let a = room-unfit B n in (a.number, a.deadlines, a.numbers, a.places))
+      (λ n. let a = room_unfit B n in (a.number, a.deadlines, a.numbers, a.places))
   only (says.large w h) =
       test (few (length B.lengths / 4) (count B.records))
       (λ f. absurd (h (small_room f)))
-      (λ n. let a = room-large B (room_fits w) n in (a.number, a.deadlines, a.numbers, a.places))
+      (λ n. let a = room_large B (room_fits w) n in (a.number, a.deadlines, a.numbers, a.places))
   only (says.read {out} ks ps w s lo lk lp h) =
       let e = room_fits w in
       let f = room_small s in
@@ -205,8 +205,8 @@ module _ (B : RoomBytes) where
       let sets-length = sets e f in
       let set : (k : ℕ) → k < length ns → (at ks k ≡ at (numbers e f) k) × (at ps k ≡ at (places e f) k) × (bytes_of B k out ≡ bytes_of B k (deadline_bytes B)) =
       λ k b.
-      let q = set_only (records_of B k) (bytes_of B k B.deadlines) (here-whole e f k b) (h k (omega (arith, sets-length))) in
-      (q.0 ∙ sym (number-so e f k b), q.1 ∙ sym (place-so e f k b), q.2 ∙ sym (bytes-so e f k b))
+      let q = set_only (records_of B k) (bytes_of B k B.deadlines) (here_whole e f k b) (h k (omega (arith, sets-length))) in
+      (q.0 ∙ sym (number_so e f k b), q.1 ∙ sym (place_so e f k b), q.2 ∙ sym (bytes_so e f k b))
       in (
         a.number,
         same_stretches 4 ns out (deadline_bytes B) (omega (arith, lo, w.sum, w.records.1)) (after_length e f) (λ k b. (set k b).2),
@@ -215,9 +215,9 @@ module _ (B : RoomBytes) where
       )
 
   -- Another number than 0 leaves every byte.
-  pub room-door-keeps :
+  pub room_door_keeps :
       roomed B ≢ 0 → (deadline_bytes B ≡ B.deadlines) × (number_bytes B ≡ B.numbers) × (place_bytes B ≡ B.places)
-  room-door-keeps z = kept says_so z
+  room_door_keeps z = kept says_so z
     where
       kept :
           {n : ℕ} {out ks ps : List ℕ} → DoorRoomSays B n out ks ps → n ≢ 0 → (out ≡ B.deadlines) × (ks ≡ B.numbers) × (ps ≡ B.places)
@@ -240,9 +240,9 @@ pub door_call_per_set : DoorCallPerSet
 door_call_per_set B k z h =
     let r = room_door_read B z in
     let b : k < length (lengths_of B) = omega (arith, words_length B.lengths) in (
-      ap (λ (l : List ℕ). at l k) (number-words B r.0 r.1) ∙ number-so B r.0 r.1 k b,
-      ap (λ (l : List ℕ). at l k) (place-words B r.0 r.1) ∙ place-so B r.0 r.1 k b,
-      bytes-so B r.0 r.1 k b,
+      ap (λ (l : List ℕ). at l k) (number_words B r.0 r.1) ∙ number_so B r.0 r.1 k b,
+      ap (λ (l : List ℕ). at l k) (place_words B r.0 r.1) ∙ place_so B r.0 r.1 k b,
+      bytes_so B r.0 r.1 k b,
     )
 
 pub door_accepted_sets : DoorAcceptedSets
@@ -253,7 +253,7 @@ door_accepted_sets B k z h n =
     let here = records_of B k in
     let found = bytes_of B k B.deadlines in
     let zero : assigned here (length found) ≡ 0 = accepted_code here found (sym o.0 ∙ n) in
-    let l : length (assigned_bytes here found) / 4 ≡ count here = omega (arith, assigned_length here found, (here-whole B r.0 r.1 k b).1) in
+    let l : length (assigned_bytes here found) / 4 ≡ count here = omega (arith, assigned_length here found, (here_whole B r.0 r.1 k b).1) in
     rw (o.2, l) (door_hands_on here found zero)
 
 pub door_rooms_agree : DoorRoomsAgree

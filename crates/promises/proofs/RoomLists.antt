@@ -31,11 +31,11 @@ use Rattle.charoktan.specs.Answers.{assigned, assigned_bytes}
 use Rattle.charoktan.specs.Rooms.{RoomBytes, words_of, lengths_of, roomed, deadline_bytes, number_bytes, place_bytes}
 use Rattle.charoktan.proofs.Coding.{length-column}
 use Rattle.charoktan.proofs.Door.{size-records, records_lengths, answered}
-use Rattle.charoktan.proofs.RoomDoor.{words_length, column-stretch, room-large, room-read}
+use Rattle.charoktan.proofs.RoomDoor.{words_length, column-stretch, room_large, room_read}
 use Rattle.promises.specs.Words.{Number, accepted, at}
 use Rattle.promises.specs.Door.{Whole, room}
 use Rattle.promises.specs.RoomDoor.{WholeRoom, records_of, bytes_of, room_of, DoorIsRoom}
-use Rattle.promises.proofs.Door.{fits, door-placed, door_keeps, read_back}
+use Rattle.promises.proofs.Door.{fits, door_placed, door_keeps, read_back}
 use Rattle.promises.proofs.Assign.{assign_answers, assign_keeps}
 use Rattle.promises.proofs.Rooms.{accepted-number, number-accepted}
 use Rattle.promises.proofs.Outcomes.{assign_writes}
@@ -53,10 +53,10 @@ records-stretch bs a n h e =
 
 -- One set: what the door returns holds the answer's number and place,
 module _ (bs out : List ℕ) (w : Whole bs out) where
-  code-told :
+  code_told :
       (assigned bs (length out) % 65_536 ≡ number (olda.answer (records bs) (count bs)))
       × (assigned bs (length out) / 65_536 ≡ place (olda.answer (records bs) (count bs)))
-  code-told = by_answer (olda.answer (records bs) (count bs)) refl
+  code_told = by_answer (olda.answer (records bs) (count bs)) refl
     where
       by_answer :
           (a : Answer) → olda.answer (records bs) (count bs) ≡ a
@@ -77,11 +77,11 @@ module _ (bs out : List ℕ) (w : Whole bs out) where
       let found = words out n in
       let long : length found ≡ n = length-column out 4 0 n in
       let a = olda.answer s n in
-      let t = code-told in
+      let t = code_told in
       test (eqb (assigned bs (length out)) 0)
       (λ e.
       let z = eqb-true (assigned bs (length out)) 0 e in
-      let p = door-placed bs out z in
+      let p = door_placed bs out z in
       let ok : accepted (olda.values (olda.answer s (length found))) = rw long (number-accepted a (omega (arith, t.0))).0 in
       ap (λ (l : List ℕ). words l n) p.2
       ∙ (read_back bs (olda.results s (room bs)) p.1).1
@@ -138,44 +138,44 @@ module _ (B : RoomBytes) (w : WholeRoom B) where
       abbrev n : ℕ
       n = at ns k
 
-      here-count : count (records_of B k) ≡ n
-      here-count = omega (arith, door.here-long B e f k h)
+      here_count : count (records_of B k) ≡ n
+      here_count = omega (arith, door.here_long B e f k h)
 
       same_set : records (records_of B k) ≡ set_at (records B.records) a n
-      same_set = records-stretch B.records a n (door.stretched B e f k h).inside here-count
+      same_set = records-stretch B.records a n (door.stretched B e f k h).inside here_count
 
       asked : olda.answer (records (records_of B k)) (count (records_of B k)) ≡ olda.answer (set_at (records B.records) a n) n
-      asked = ap (olda.answer (records (records_of B k))) here-count ∙ ap (λ (s : Subjobs). olda.answer s n) same_set
+      asked = ap (olda.answer (records (records_of B k))) here_count ∙ ap (λ (s : Subjobs). olda.answer s n) same_set
 
       number_same : at (door.numbers B e f) k ≡ at (numbers_after R) k
       number_same =
-          door.number-so B e f k h
-          ∙ (code-told (records_of B k) (bytes_of B k B.deadlines) (door.here-whole B e f k h)).0
+          door.number_so B e f k h
+          ∙ (code_told (records_of B k) (bytes_of B k B.deadlines) (door.here_whole B e f k h)).0
           ∙ ap number asked
-          ∙ sym (lists.number-told R F k h)
+          ∙ sym (lists.number_told R F k h)
 
       place_same : at (door.places B e f) k ≡ at (places_after R) k
       place_same =
-          door.place-so B e f k h
-          ∙ (code-told (records_of B k) (bytes_of B k B.deadlines) (door.here-whole B e f k h)).1
+          door.place_so B e f k h
+          ∙ (code_told (records_of B k) (bytes_of B k B.deadlines) (door.here_whole B e f k h)).1
           ∙ ap place asked
-          ∙ sym (lists.place-told R F k h)
+          ∙ sym (lists.place_told R F k h)
 
-      stretch-same : stretch a n (words_of (deadline_bytes B)) ≡ stretch a n (deadlines_after R)
-      stretch-same =
+      stretch_same : stretch a n (words_of (deadline_bytes B)) ≡ stretch a n (deadlines_after R)
+      stretch_same =
           let here = records_of B k in
           let found = bytes_of B k B.deadlines in
           let inside = (door.stretched B e f k h).inside in
           let after : stretch a n (words_of (deadline_bytes B)) ≡ words (assigned_bytes here found) n =
           sym (column-stretch (deadline_bytes B) 4 0 (length (deadline_bytes B) / 4) a n (omega arith) (omega (arith, door.after_length B e f, w.sum)))
-          ∙ ap (λ (l : List ℕ). words l n) (door.bytes-so B e f k h)
+          ∙ ap (λ (l : List ℕ). words l n) (door.bytes_so B e f k h)
           in
           let before : words found n ≡ stretch a n (words_of B.deadlines) =
           column-stretch B.deadlines 4 0 (length B.deadlines / 4) a n (omega arith) (omega (arith, w.records.1))
           in
           after
-          ∙ rw here-count at (bytes_told here found (door.here-whole B e f k h))
-          ∙ rw (same_set, before) (sym (lists.stretch-left R F k h))
+          ∙ rw here_count at (bytes_told here found (door.here_whole B e f k h))
+          ∙ rw (same_set, before) (sym (lists.stretch_left R F k h))
 
     read :
         Number (roomed B) (values (judgement R))
@@ -186,26 +186,26 @@ module _ (B : RoomBytes) (w : WholeRoom B) where
         let sets = words_length B.lengths in
         let one : (x : ℕ) → 1 * x ≡ x = λ x. omega arith in
         let all : length (words_of (deadline_bytes B)) ≡ 1 * total ns = words_length (deadline_bytes B) ∙ omega (arith, door.after_length B e f) in (
-          rw (← (room-read B e f (record { deadlines = refl; numbers = refl; places = refl })).number, (read_exactly R).1 F) refl,
+          rw (← (room_read B e f (record { deadlines = refl; numbers = refl; places = refl })).number, (read_exactly R).1 F) refl,
           same_stretches 1 ns (words_of (deadline_bytes B)) (deadlines_after R) all (lists.after_length R F ∙ omega (arith, whole.sum))
-              (λ k h. rw (one (start ns k), one (at ns k)) (stretch-same k h)),
-          door.number-words B e f
+              (λ k h. rw (one (start ns k), one (at ns k)) (stretch_same k h)),
+          door.number_words B e f
               ∙ ext_get_or 0 (door.numbers B e f) (numbers_after R) (door.numbers_length B e f ∙ sym sets ∙ sym (lists.numbers_length R F))
               (λ k h. number_same k (omega (arith, door.numbers_length B e f, sets))),
-          door.place-words B e f
+          door.place_words B e f
               ∙ ext_get_or 0 (door.places B e f) (places_after R) (door.places_length B e f ∙ sym sets ∙ sym (lists.places_length R F))
               (λ k h. place_same k (omega (arith, door.places_length B e f, sets))),
         )
 
-  is-room :
+  is_room :
       Number (roomed B) (values (judgement R))
       × (words_of (deadline_bytes B) ≡ deadlines_after R)
       × (words_of (number_bytes B) ≡ numbers_after R)
       × (words_of (place_bytes B) ≡ places_after R)
-  is-room =
+  is_room =
       test (few (length B.lengths / 4) (count B.records)) read
       (λ x.
-      let d = room-large B (door.room_fits B w) x in
+      let d = room_large B (door.room_fits B w) x in
       let large : faults.Few R → ⊥ =
       λ s.
       clash
@@ -221,4 +221,4 @@ module _ (B : RoomBytes) (w : WholeRoom B) where
       ))
 
 pub door_is_room : DoorIsRoom
-door_is_room B w = is-room B w
+door_is_room B w = is_room B w

@@ -20,7 +20,7 @@ use Rattle.stretches.specs.Faults as faults
 use Rattle.stretches.specs.Faults.{Fit, Faulty}
 use Rattle.stretches.proofs.Stretched.{same_stretches}
 use Rattle.stretches.proofs.Judged.{judged, read_exactly, refused_exactly}
-use Rattle.stretches.proofs.Outcome.{refused_keeps, read_numbers, read_places, numbers_length, places_length, stretch-length, deadlines-length, after_length, number-told, place-told, stretch-left}
+use Rattle.stretches.proofs.Outcome.{refused_keeps, read_numbers, read_places, numbers_length, places_length, stretch-length, deadlines-length, after_length, number_told, place_told, stretch_left}
 use Rattle.promises.specs.Words.{accepted, at}
 use Rattle.promises.specs.Assign.{AssignSays}
 use Rattle.promises.specs.Rooms as says
@@ -81,22 +81,22 @@ module _ (R : Room) (F : Fit R) (k : ℕ) (h : k < length R.lengths) where
   long : length found ≡ at R.lengths k
   long = stretch-length R F k h R.deadlines (deadlines-length R F)
 
-  one-call :
+  one_call :
       (at (numbers_after R) k ≡ number (olda.answer (set_of R k) (length found)))
       × (at (places_after R) k ≡ place (olda.answer (set_of R k) (length found)))
       × (stretch_of R k (deadlines_after R) ≡ olda.results (set_of R k) found)
       × (size (set_of R k) ≡ at R.lengths k)
       × (length found ≡ at R.lengths k)
-  one-call = (
-    number-told R F k h ∙ ap (λ (n : ℕ). number (olda.answer (set_of R k) n)) (sym long),
-    place-told R F k h ∙ ap (λ (n : ℕ). place (olda.answer (set_of R k) n)) (sym long),
-    stretch-left R F k h,
+  one_call = (
+    number_told R F k h ∙ ap (λ (n : ℕ). number (olda.answer (set_of R k) n)) (sym long),
+    place_told R F k h ∙ ap (λ (n : ℕ). place (olda.answer (set_of R k) n)) (sym long),
+    stretch_left R F k h,
     stretch-length R F k h R.sets.jobs refl,
     long,
   )
 
   says_set : SetSays (set_of R k) found (at (numbers_after R) k) (at (places_after R) k) (stretch_of R k (deadlines_after R))
-  says_set = let o = one-call in rw (o.0, o.1, o.2) (set_says (set_of R k) found)
+  says_set = let o = one_call in rw (o.0, o.1, o.2) (set_says (set_of R k) found)
 
 module _ (R : Room) where
   faulted : {r : Reason} → Faulty R r → RoomSays R (told.values r) R.deadlines R.numbers R.places
@@ -130,7 +130,7 @@ module _ (R : Room) where
       let set : (k : ℕ) → k < length ns → (at ks k ≡ at (numbers_after R) k) × (at ps k ≡ at (places_after R) k) × (stretch_of R k out ≡ stretch_of R k (deadlines_after R)) =
       λ k b.
       let q = set_only (set_of R k) (stretch_of R k R.deadlines) (h k b) in
-      let o = one-call R F k b in
+      let o = one_call R F k b in
       (q.0 ∙ sym o.0, q.1 ∙ sym o.1, q.2 ∙ sym o.2)
       in
       let one : (x : ℕ) → 1 * x ≡ x = λ x. omega arith in (
@@ -142,10 +142,10 @@ module _ (R : Room) where
       )
 
   -- A refused room keeps its lists.
-  pub room-keeps :
+  pub room_keeps :
       (accepted (values (judgement R)) → ⊥)
       → (deadlines_after R ≡ R.deadlines) × (numbers_after R ≡ R.numbers) × (places_after R ≡ R.places)
-  room-keeps n =
+  room_keeps n =
       split (judged R).holds
       (λ F. absurd (n (rw ((read_exactly R).1 F) refl)))
       (λ w. refused_keeps R w.0 ((refused_exactly R w.0).1 w.1))
@@ -179,7 +179,7 @@ pub room_answers : RoomAnswers
 room_answers R = (says_so R, λ v out ks ps h. only R h)
 
 pub one_call_per_set : OneCallPerSet
-one_call_per_set R k a h = one-call R (fit_of R a) k h
+one_call_per_set R k a h = one_call R (fit_of R a) k h
 
 pub accepted_sets : AcceptedSets
 accepted_sets R k a h z =

@@ -19,9 +19,9 @@ use Rattle.subjobs.specs.Judging.{judgement}
 use Rattle.subjobs.specs.Faults.{Fit}
 use Rattle.subjobs.proofs.Fit.{fit_passes}
 use Rattle.ticks.specs.Runs.{due, load, run}
-use Rattle.ticks.proofs.Service.{counters, served-most}
+use Rattle.ticks.proofs.Service.{counters, served_most}
 use Rattle.ticks.proofs.Finishes.{finish_by}
-use Rattle.ticks.proofs.Ticks.{finish_at, run_nothing, run_ticks, run-busy, run-finish}
+use Rattle.ticks.proofs.Ticks.{finish_at, run_nothing, run_ticks, run-busy, run_finish}
 use Rattle.edf.specs.declared.Answer.{Answer}
 use Rattle.edf.specs.declared.Answer.TheVariants.{Ran, Refused}
 use Rattle.edf.specs.declared.Totals.{Totals}
@@ -49,15 +49,15 @@ module _ (s : Subjobs) (ds asks fs : List ℕ) (t : Totals) where
     passed : judgement s further ≡ judged.Passed
     passed = fit_passes s further f
 
-    pub above-leaves : above (added (run s ds asks) t) ≡ true → Leaves (Refused reason.Totals) fs t
+    pub above_leaves : above (added (run s ds asks) t) ≡ true → Leaves (Refused reason.Totals) fs t
     unfolding answer finishes totals
-    above-leaves e = (rw (passed, e), rw (passed, e), rw (passed, e))
+    above_leaves e = (rw (passed, e), rw (passed, e), rw (passed, e))
 
-    pub ran-leaves :
+    pub ran_leaves :
         above (added (run s ds asks) t) ≡ false
         → Leaves (Ran (record { end = (run s ds asks).end })) (run s ds asks).finishes (added (run s ds asks) t)
     unfolding answer finishes totals
-    ran-leaves e = (rw (passed, e), rw (passed, e), rw (passed, e))
+    ran_leaves e = (rw (passed, e), rw (passed, e), rw (passed, e))
 
     too_many : (most < t.busy + (run s ds asks).busy) ⊎ (most < t.idle + (run s ds asks).idle) → above (added (run s ds asks) t) ≡ true
     too_many h =
@@ -72,11 +72,11 @@ module _ (s : Subjobs) (ds asks fs : List ℕ) (t : Totals) where
       (λ w. let a = refused_leaves w.1 in rw (a.0, a.1, a.2) (says.faulty w.2))
       (λ f.
       test (ltb most (t.busy + (run s ds asks).busy))
-      (λ y. let a = above-leaves f (rw y) in rw (a.0, a.1, a.2) (says.above f (inl (omega tests))))
+      (λ y. let a = above_leaves f (rw y) in rw (a.0, a.1, a.2) (says.above f (inl (omega tests))))
       (λ n.
       test (ltb most (t.idle + (run s ds asks).idle))
-      (λ y. let a = above-leaves f (rw (n, y)) in rw (a.0, a.1, a.2) (says.above f (inr (omega tests))))
-      (λ m. let a = ran-leaves f (rw (n, m)) in rw (a.0, a.1, a.2) (says.ran f (omega tests) (omega tests)))))
+      (λ y. let a = above_leaves f (rw (n, y)) in rw (a.0, a.1, a.2) (says.above f (inr (omega tests))))
+      (λ m. let a = ran_leaves f (rw (n, m)) in rw (a.0, a.1, a.2) (says.ran f (omega tests) (omega tests)))))
 
   -- What RULES says is what the simulator answers.
   only :
@@ -88,10 +88,10 @@ module _ (s : Subjobs) (ds asks fs : List ℕ) (t : Totals) where
       let a = refused_leaves w.1 in
       (w.2 ∙ sym (ap values a.0), sym a.1, sym a.2)
   only (says.above f h) =
-      let a = above-leaves f (too_many f h) in
+      let a = above_leaves f (too_many f h) in
       (sym (ap values a.0), sym a.1, sym a.2)
   only (says.ran f b i) =
-      let a = ran-leaves f (rw (le-ltb most (t.busy + (run s ds asks).busy) b, le-ltb most (t.idle + (run s ds asks).idle) i)) in
+      let a = ran_leaves f (rw (le-ltb most (t.busy + (run s ds asks).busy) b, le-ltb most (t.idle + (run s ds asks).idle) i)) in
       (sym (ap values a.0), sym a.1, sym a.2)
 
 pub simulate_answers : SimulateAnswers
@@ -103,20 +103,20 @@ run_answers s ds asks fs fs' t t' r h =
 
 pub finish_is_last_tick : FinishIsLastTick
 finish_is_last_tick s ds asks f i h o =
-    let w = run-finish s ds asks f.few i h o in
+    let w = run_finish s ds asks f.few i h o in
     (w.tick, w.ends, w.served, w.last)
 
 pub owed_nothing : OwedNothing
 owed_nothing s ds asks i h z = run_nothing s ds asks i h z
 
 pub never_more : NeverMore
-never_more s ds asks f t i = served-most (load s ds asks) (counters s ds asks f.few) t i
+never_more s ds asks f t i = served_most (load s ds asks) (counters s ds asks f.few) t i
 
 pub served_by_finish : ServedByFinish
 served_by_finish s ds asks f i h =
     let L = load s ds asks in
     let K = counters s ds asks f.few in
-    let most : (t : ℕ) → served s ds asks t i ≤ due s asks i = λ t. served-most L K t i in
+    let most : (t : ℕ) → served s ds asks t i ≤ due s asks i = λ t. served_most L K t i in
     let by : 0 < due s asks i → (t : ℕ) → (finish s ds asks i ≤ t) ↔ (served s ds asks t i ≡ due s asks i) =
     λ o. rw (finish_at s ds asks i h) (finish_by L K i (in_places (size s) i h) o)
     in (

@@ -99,8 +99,8 @@ module _ (s : Subjobs) where
     is_stuck : {p m : ℕ} → method s ≡ stuck p m → tabled s ≡ refusal (Late p m (bound (terms s) p))
     is_stuck {p} {m} q = tabled_refused (ap (olda.answer s) (sym long) ∙ (stuck-answer s room fits p m q).0)
 
-    is-placed : {ds : List ℕ} → method s ≡ placed ds → tabled s ≡ printed s ds
-    is-placed {ds} q =
+    is_placed : {ds : List ℕ} → method s ≡ placed ds → tabled s ≡ printed s ds
+    is_placed {ds} q =
         let a = placed-answer s room fits ds q in
         tabled_passed (ap (λ (n : ℕ). verdict_of (olda.answer s n)) (sym long) ∙ ap verdict_of a.0 ∙ no_refusal (olda.report s (at ds)) (report-accepted s ds)) a.1
 
@@ -124,31 +124,31 @@ module _ (text : List ℕ) where
     few : size (set_of rows) ≤ 128
     few = omega (arith, rows-size rows, t.1)
 
-    by-fault : {r : Reason} → Faulty (set_of rows) true r → TableSays text (refused_line (number_of r) (printed_line r))
-    by-fault (faults.lengths n) = absurd (n (rows_length rows))
-    by-fault (faults.many l m) = absurd (omega (arith, few))
-    by-fault (faults.range p f l m h a b n) = says.range t (faults.range p f l m h a b n)
-    by-fault (faults.pair p j l m a h b k e) = says.pair t (faults.pair p j l m a h b k e)
+    by_fault : {r : Reason} → Faulty (set_of rows) true r → TableSays text (refused_line (number_of r) (printed_line r))
+    by_fault (faults.lengths n) = absurd (n (rows_length rows))
+    by_fault (faults.many l m) = absurd (omega (arith, few))
+    by_fault (faults.range p f l m h a b n) = says.range t (faults.range p f l m h a b n)
+    by_fault (faults.pair p j l m a h b k e) = says.pair t (faults.pair p j l m a h b k e)
 
-    by-method : Fit (set_of rows) true → (w : Outcome) → method (set_of rows) ≡ w → TableSays text (tabled (set_of rows))
-    by-method f (stuck p m) q =
+    by_method : Fit (set_of rows) true → (w : Outcome) → method (set_of rows) ≡ w → TableSays text (tabled (set_of rows))
+    by_method f (stuck p m) q =
         let s = set_of rows in
         rw (is_stuck s f q, line_of_lem (Late p m (bound (terms s) p))) (says.late t f ((method-stuck s f p m).0 q))
-    by-method f (placed ds) q = rw (is-placed (set_of rows) f q) (says.accepted t (gives (set_of rows) f q))
+    by_method f (placed ds) q = rw (is_placed (set_of rows) f q) (says.accepted t (gives (set_of rows) f q))
 
-    by-set : TableSays text (tabled (set_of rows))
-    by-set =
+    by_set : TableSays text (tabled (set_of rows))
+    by_set =
         let s = set_of rows in
         split (judged s true).holds
-        (λ f. by-method f (method s) refl)
-        (λ q. rw (judged_refused s ((judged s true).refuses q.0 q.1), line_of_lem q.0) (by-fault q.1))
+        (λ f. by_method f (method s) refl)
+        (λ q. rw (judged_refused s ((judged s true).refuses q.0 q.1), line_of_lem q.0) (by_fault q.1))
 
   by_reading : {p : Parsed} → read text ≡ p → Reads text p → TableSays text (answer text)
   by_reading e (format.long h) = rw (read-refused e) (says.long h)
   by_reading e (format.headless h n) = rw (read-refused e) (says.headless h n)
   by_reading e (format.malformed b h n m) = rw (read-refused e) (says.malformed b h n m)
   by_reading e (format.many b h n) = rw (read-refused e) (says.many b h n)
-  by_reading e (format.table b h) = rw (read-records e) (by-set (b, h))
+  by_reading e (format.table b h) = rw (read-records e) (by_set (b, h))
 
   refusing : {r : Reason} → Reads text (refused r) → refused_line (number_of r) (printed_line r) ≡ answer text
   refusing {r} h = sym (read-refused ((read_exactly text (refused r)).1 h))
@@ -170,7 +170,7 @@ module _ (text : List ℕ) where
       let s = set_of rows in
       let w = assigned_rules s ds h in
       let f : Fit s true = rw w.0.lengths.further at w.0 in
-      sym (is_read t ∙ is-placed s f ((method-placed s f ds).1 (w.1, w.2)))
+      sym (is_read t ∙ is_placed s f ((method-placed s f ds).1 (w.1, w.2)))
 
 pub table_answers : TableAnswers
 table_answers text = (by_reading text refl ((read_exactly text (read text)).0 refl), λ o h. only text h)

@@ -29,8 +29,8 @@ module _ (R : Room) where
     too_large f = refused TooLarge (rw (e, f))
 
     module _ (f : few (length R.lengths) (size R.sets) ≡ true) where
-      pub all-sets : Sets R.sets R.lengths R.deadlines R.numbers R.places
-      all-sets =
+      pub all_sets : Sets R.sets R.lengths R.deadlines R.numbers R.places
+      all_sets =
           let w = whole R e in
           let l = w.lists in
           record {
@@ -51,8 +51,8 @@ module _ (R : Room) where
             places = w.places;
           }
 
-      pub all-assigned :
+      pub all_assigned :
           {out ks ps : List ℕ} → AllAssigned R.sets R.lengths R.deadlines out ks ps → Assigns R Passed out ks ps
       unfolding judgement deadlines_after numbers_after places_after
-      all-assigned a =
+      all_assigned a =
           record { answer = rw (e, f); deadlines = rw (e, f) a.deadlines; numbers = rw (e, f) a.numbers; places = rw (e, f) a.places }

@@ -14,7 +14,7 @@ use Rattle.olda.proofs.Results.{refused_within, results-length}
 use Rattle.stretches.specs.Stretches.{stretch, replaced, start, each}
 use Rattle.stretches.specs.Answers.{set_at, answer_at, results_at, number, place}
 use Rattle.room.specs.Parts.{Within, Sets, AllAssigned}
-use Rattle.stretches.proofs.Stretched.{each-length, each_at, Written, written_none, written_start, written-stretch, written-inside, written-more, written_all}
+use Rattle.stretches.proofs.Stretched.{each-length, each_at, Written, written_none, written_start, written_stretch, written_inside, written_more, written_all}
 
 -- A place that is told of a set is one of 128.
 pub place_within : (s : Subjobs) (n : ℕ) → place (answer s n) < 128
@@ -68,12 +68,12 @@ module _ (s : Subjobs) (ns : List ℕ) where
 
   module _ {old out ks ps : List ℕ} {a k : ℕ} (T : Turned old out ks ps a k) where
     module _ (h : k < length ns) (n : ℕ) (en : n ≡ get_or ns k 0) where
-      pub turned-inside : Within s a n out
-      turned-inside =
+      pub turned_inside : Within s a n out
+      turned_inside =
           let l = T.sets.lists in
           record {
             few = l.few;
-            inside = omega (arith, written-inside 1 (results_at s old) ns old out a k T.written h n en, T.sets.sum);
+            inside = omega (arith, written_inside 1 (results_at s old) ns old out a k T.written h n en, T.sets.sum);
             subtasks = l.subtasks;
             releases = l.releases;
             executions = l.executions;
@@ -82,14 +82,14 @@ module _ (s : Subjobs) (ns : List ℕ) where
             results = T.written.room ∙ l.results;
           }
 
-      pub turned-next :
+      pub turned_next :
           {out' : List ℕ} {x y : ℕ}
           → out' ≡ replaced a n (results_at s out a n) out
           → x ≡ number (answer_at s a n)
           → y ≡ place (answer_at s a n)
           → Turned old out' (set ks k x) (set ps k y) (a + n) (k + 1)
-      turned-next {out'} {x} {y} e ex ey =
-          let i = turned-inside.inside in
+      turned_next {out'} {x} {y} e ex ey =
+          let i = turned_inside.inside in
           let W = T.written in
           let r = T.sets.lists.results in
           let long : length (stretch a n out) ≡ n = length-take-le n (drop a out) (omega (arith, W.room, length-drop a out)) in
@@ -104,16 +104,16 @@ module _ (s : Subjobs) (ns : List ℕ) where
                   places = length-set ps k y ∙ T.sets.places;
                 };
             written =
-                written-more 1 (results_at s old) ns old out a k W h n en a n (results_at s out a n) out' (omega arith) (omega arith) (omega (arith, W.room))
-                (rw (written-stretch 1 (results_at s old) ns old out a k W a n (omega arith)))
+                written_more 1 (results_at s old) ns old out a k W h n en a n (results_at s out a n) out' (omega arith) (omega arith) (omega (arith, W.room))
+                (rw (written_stretch 1 (results_at s old) ns old out a k W a n (omega arith)))
                 (results-length (set_at s a n) (stretch a n out) ∙ long)
                 e;
             numbered = copied_next T.numbered h (ex ∙ rw (at, en) (sym (each_at (λ a n. number (answer_at s a n)) 0 ns k h)));
             placed = copied_next T.placed h (ey ∙ rw (at, en) (sym (each_at (λ a n. place (answer_at s a n)) 0 ns k h)));
           }
 
-    pub turned-all : length ns ≤ k → AllAssigned s ns old out ks ps
-    turned-all h =
+    pub turned_all : length ns ≤ k → AllAssigned s ns old out ks ps
+    turned_all h =
         let S = T.sets in
         record {
           deadlines = written_all 1 (results_at s old) ns old out a k T.written h (omega (arith, S.sum, S.lists.results));

@@ -18,14 +18,14 @@ use Rattle.subjobs.specs.Conditions.{Six, Seven}
 use Rattle.rules.specs.Rules.{completion_of, Turn, Accepts, over, place}
 use Rattle.rules.proofs.Renaming.{turn_in}
 use Rattle.rules.proofs.Rules.{Ones, turn_one}
-use Rattle.rules.proofs.Remaining.{no_later, accepted-turn, accepted-step}
-pub use Rattle.rules.proofs.Remaining.{accepted-falls}
+use Rattle.rules.proofs.Remaining.{no_later, accepted_turn, accepted_step}
+pub use Rattle.rules.proofs.Remaining.{accepted_falls}
 
 module _ (T : Terms) where
   -- A turn's completion is at least that of every subset ..
-  pub turn-most :
+  pub turn_most :
       {xs : List ℕ} {b m : ℕ} → Turn T xs b m → (U : ℕ → Bool) → filter U xs ≢ [] → completion_of T (filter U xs) ≤ m
-  turn-most t U n = omega (arith, t.is_base.most U n, t.is_completion)
+  turn_most t U n = omega (arith, t.is_base.most U n, t.is_completion)
 
   -- .. and so that of a sub-job alone.
   pub turn_alone : {xs : List ℕ} {b m : ℕ} → Turn T xs b m → {i : ℕ} → Memᴰ i xs → T.release i + T.execution i ≤ m
@@ -35,7 +35,7 @@ module _ (T : Terms) where
       let n = in_filled u in
       omega (
         arith,
-        turn-most t U n,
+        turn_most t U n,
         weight_in T.execution (filter U xs) u,
         least_most T.release (T.release i) (filter U xs) n
             (λ j k. let e = eqb-true j i (filter_in U xs k).1 in omega (arith, ap T.release e)),
@@ -43,18 +43,18 @@ module _ (T : Terms) where
 
   -- Deadlines that the rules give meet (6) ..
   pub accepted_six : {d : ℕ → ℕ} (xs : List ℕ) → Accepts T d xs → Six T d xs
-  accepted_six xs a i m = let w = accepted-turn T xs a m in (turn_alone w.2 (turn_in w.2), w.3)
+  accepted_six xs a i m = let w = accepted_turn T xs a m in (turn_alone w.2 (turn_in w.2), w.3)
 
   -- .. and (7): the member of a subset that was placed first had the whole subset before it.
   pub accepted_seven : {d : ℕ → ℕ} (xs : List ℕ) → Accepts T d xs → Seven T d xs
   accepted_seven xs over U n = absurd (n (filter-nil U))
   accepted_seven {d} xs (place b t h a) U n =
       test (U b)
-      (λ y. omega (arith, turn-most t U n, greatest_ge d (filter U xs) (in_filter U xs (turn_in t) y)))
+      (λ y. omega (arith, turn_most t U n, greatest_ge d (filter U xs) (in_filter U xs (turn_in t) y)))
       (λ y. let e = filter-without U b xs y in rw (← e) (accepted_seven (without b xs) a U (λ q. n (sym e ∙ q))))
 
   -- No two are alike, since p and its deadline settle each other.
-  pub accepted-apart :
+  pub accepted_apart :
       Order T.lower
       → {d : ℕ → ℕ} (xs : List ℕ)
       → Ones T.execution xs
@@ -64,7 +64,7 @@ module _ (T : Terms) where
       → Memᴰ j xs
       → i ≢ j
       → d i ≢ d j
-  accepted-apart o {d} xs ones a {i} {j} m k n q =
+  accepted_apart o {d} xs ones a {i} {j} m k n q =
       n
-      (turn_one T o (filter (no_later d i) xs) (λ x y. ones x (filter_in (no_later d i) xs y).0) (accepted-step T o xs ones a m).1
-      (subst (λ (x : ℕ). Turn T (filter (λ y. leb (d y) x) xs) j x) (sym q) (accepted-step T o xs ones a k).1)).0
+      (turn_one T o (filter (no_later d i) xs) (λ x y. ones x (filter_in (no_later d i) xs y).0) (accepted_step T o xs ones a m).1
+      (subst (λ (x : ℕ). Turn T (filter (λ y. leb (d y) x) xs) j x) (sym q) (accepted_step T o xs ones a k).1)).0

@@ -13,7 +13,7 @@ use Rattle.lists.proofs.Cases.{split, test, tests, tested, both}
 use Rattle.lists.proofs.Members.{or_filled, filter_in, filled}
 use Rattle.lists.proofs.Sums.{weight-nil, weight_le, weight-filter, weight_parts, weight_picked, least_most}
 use Rattle.rules.specs.Method.{best, base}
-use Rattle.rules.proofs.Tails.{weight-base, t1_le, late_room, attained, latest, base-threshold}
+use Rattle.rules.proofs.Tails.{weight-base, t1_le, late_room, attained, latest, base_threshold}
 
 -- Two subsets that have nobody in common, inside a third.
 weight_apart :
@@ -40,9 +40,9 @@ module _ (r c : ℕ → ℕ) where
 
   module _ (xs : List ℕ) (sorted : InOrder r xs) where
     -- What is released at or after a moment that lies between the base's start and the best completes before the best.
-    pub later-room :
+    pub later_room :
         (f : ℕ) → least r (base r c xs) < f → f < best r c xs → f + weight c (filter (λ i. leb f (r i)) xs) < best r c xs
-    later-room f lo hi =
+    later_room f lo hi =
         let U : ℕ → Bool = λ i. leb f (r i) in
         let h = t1_le r c U xs in
         split (or_filled (filter U xs))
@@ -68,7 +68,7 @@ module _ (r c : ℕ → ℕ) where
         absurd
         (omega (
           tests,
-          later-room t lo (omega tests),
+          later_room t lo (omega tests),
           attained r c xs sorted,
           weight_parts c U (base r c xs),
           weight_of_base c U xs,
@@ -81,11 +81,11 @@ module _ (r c : ℕ → ℕ) where
         before i e = let n = not-true (leb t (r i)) e in omega tests
 
     -- Those released before the base have room between any moment and its start.
-    pub early-room :
+    pub early_room :
         ((i : ℕ) → Memᴰ i xs → 1 ≤ c i)
         → (a : ℕ)
         → weight c (filter (λ i. ltb (r i) (least r (base r c xs)) && leb a (r i)) xs) ≤ least r (base r c xs) - a
-    early-room ones a =
+    early_room ones a =
         let U : ℕ → Bool = λ i. ltb (r i) (least r (base r c xs)) && leb a (r i) in
         let X : ℕ → Bool = λ i. leb (least r (base r c xs)) (r i) in
         split (or_filled (filter U xs))
@@ -93,7 +93,7 @@ module _ (r c : ℕ → ℕ) where
         (λ n.
         let w = filled (filter U xs) n in
         let q = between w.0 (filter_in U xs w.1).1 in
-        let e = ap (weight c) (base-threshold r c xs sorted ones) in
+        let e = ap (weight c) (base_threshold r c xs sorted ones) in
         omega (
           arith,
           attained r c xs sorted,

@@ -24,8 +24,8 @@ use Rattle.subjobs.proofs.Bounds.{lower_order, lower_total}
 use Rattle.rules.specs.Method.{in_order, Outcome, placed, stuck, steps, assigning, method}
 use Rattle.rules.specs.Rules.{Accepts, over, place, Refuses, here, later, Accepted, RefusedAt}
 use Rattle.rules.proofs.Tails.{base-nil, base_filled, base_in}
-use Rattle.rules.proofs.ReleaseOrder.{inorder-arranged, same-arranged, arranged-in}
-use Rattle.rules.proofs.Rules.{Ones, ones_without, best_of, base_of, step-turn, same-accepts, same-refuses, one-deadline, not-both, one-refusal}
+use Rattle.rules.proofs.ReleaseOrder.{inorder_arranged, same_arranged, arranged_in}
+use Rattle.rules.proofs.Rules.{Ones, ones_without, best_of, base_of, step_turn, same_accepts, same_refuses, one_deadline, not_both, one_refusal}
 
 module _ (T : Terms) where
   -- An outcome that the rules allow for the places xs; a place that is not of them keeps its deadline.
@@ -66,13 +66,13 @@ module _ (T : Terms) where
       let e : get_or es b 0 ≡ best_of T xs =
       a.2 b (λ m. (without_in b xs m).1 refl) ∙ get_or-set_same ds b (best_of T xs) 0 lim
       in (
-        place b (step-turn T xs s ones l e) (omega arith) a.0,
+        place b (step_turn T xs s ones l e) (omega arith) a.0,
         a.1 ∙ length-set ds b (best_of T xs),
         λ i n.
             a.2 i (λ m. n (without_in b xs m).0)
             ∙ get_or-set_other ds b i (best_of T xs) 0 (λ q. n (rw q (base_in T.release T.execution xs l.0))),
       )
-  more xs ds b s ones l lim h (stuck p m) a = later b (best_of T xs) (step-turn T xs s ones l refl) h a
+  more xs ds b s ones l lim h (stuck p m) a = later b (best_of T xs) (step_turn T xs s ones l refl) h a
 
   module _ (o : Order T.lower) where
     -- On a list in release order: what the steps give, the rules allow.
@@ -109,44 +109,44 @@ module _ (T : Terms) where
         (λ i q. omega (arith, lim i (without_in b xs q).0, length-set ds b (best_of T xs))))))
         (λ y.
         rw y
-        (here (step-turn T xs s ones w.1.0 refl) (leb-false (best_of T xs + T.withheld b) (T.deadline b) y)))))
+        (here (step_turn T xs s ones w.1.0 refl) (leb-false (best_of T xs + T.withheld b) (T.deadline b) y)))))
 
     module _ (xs ds : List ℕ) (ones : Ones T.execution xs) where
       -- Only one outcome is allowed.
-      obeys-one : (w w' : Outcome) → Obeys xs ds w → Obeys xs ds w' → w ≡ w'
-      obeys-one (placed es) (placed es') a b =
+      obeys_one : (w w' : Outcome) → Obeys xs ds w → Obeys xs ds w' → w ≡ w'
+      obeys_one (placed es) (placed es') a b =
           ap placed
           (ext_get_or 0 es es' (a.1 ∙ sym b.1)
           (λ i h.
-          split (or_in i xs) (λ m. one-deadline T o xs ones a.0 b.0 m) (λ n. a.2 i n ∙ sym (b.2 i n))))
-      obeys-one (placed es) (stuck p m) a f = absurd (not-both T o xs ones a.0 f)
-      obeys-one (stuck p m) (placed es) f a = absurd (not-both T o xs ones a.0 f)
-      obeys-one (stuck p m) (stuck p' m') f g = let e = one-refusal T o xs ones f g in rw (e.0, e.1)
+          split (or_in i xs) (λ m. one_deadline T o xs ones a.0 b.0 m) (λ n. a.2 i n ∙ sym (b.2 i n))))
+      obeys_one (placed es) (stuck p m) a f = absurd (not_both T o xs ones a.0 f)
+      obeys_one (stuck p m) (placed es) f a = absurd (not_both T o xs ones a.0 f)
+      obeys_one (stuck p m) (stuck p' m') f g = let e = one_refusal T o xs ones f g in rw (e.0, e.1)
 
       -- On any list of places: the method gives an outcome exactly if the rules allow it.
-      pub assigning-is :
+      pub assigning_is :
           Total T.lower xs
           → ((i : ℕ) → Memᴰ i xs → i < length ds)
           → (w : Outcome)
           → (assigning T xs ds ≡ w) ↔ Obeys xs ds w
-      assigning-is tot lim w =
+      assigning_is tot lim w =
           let ys : List ℕ = in_order T.release xs in
-          let e = same-arranged T.release xs in
-          let of : (i : ℕ) → Memᴰ i ys → Memᴰ i xs = λ i m. arranged-in T.release xs m in
+          let e = same_arranged T.release xs in
+          let of : (i : ℕ) → Memᴰ i ys → Memᴰ i xs = λ i m. arranged_in T.release xs m in
           let a : Obeys xs ds (assigning T xs ds) =
           any_order (assigning T xs ds)
-          (obeys (length xs) ys ds (inorder-arranged T.release xs) (λ i q. ones i (of i q)) (λ i j p q. tot i j (of i p) (of j q))
+          (obeys (length xs) ys ds (inorder_arranged T.release xs) (λ i q. ones i (of i q)) (λ i j p q. tot i j (of i p) (of j q))
           (omega (arith, e (λ i. 1), weight-length xs)) (λ i q. lim i (of i q)))
           in
-          (λ q. rw q at a, λ b. obeys-one (assigning T xs ds) w a b)
+          (λ q. rw q at a, λ b. obeys_one (assigning T xs ds) w a b)
         where
           any_order : (w : Outcome) → Obeys (in_order T.release xs) ds w → Obeys xs ds w
           any_order (placed es) a = (
-            same-accepts T (in_order T.release xs) xs (same-arranged T.release xs) a.0,
+            same_accepts T (in_order T.release xs) xs (same_arranged T.release xs) a.0,
             a.1,
-            λ i n. a.2 i (λ m. n (arranged-in T.release xs m)),
+            λ i n. a.2 i (λ m. n (arranged_in T.release xs m)),
           )
-          any_order (stuck p m) f = same-refuses T (in_order T.release xs) xs (same-arranged T.release xs) f
+          any_order (stuck p m) f = same_refuses T (in_order T.release xs) xs (same_arranged T.release xs) f
 
 -- For a set that passes refusals 1 to 4: executions are at least 1, and no pair stands twice.
 module _ (s : Subjobs) {others : Bool} (f : Fit s others) where
@@ -156,7 +156,7 @@ module _ (s : Subjobs) {others : Bool} (f : Fit s others) where
   method_is : (w : Outcome) → (method s ≡ w) ↔ Obeys (terms s) (places (size s)) (replicate (size s) 0) w
   unfolding method
   method_is =
-      assigning-is (terms s) (lower_order s) (places (size s)) (replicate (size s) 0) fit_ones (lower_total s f.pairs)
+      assigning_is (terms s) (lower_order s) (places (size s)) (replicate (size s) 0) fit_ones (lower_total s f.pairs)
       (λ i m. omega (arith, places_in (size s) i m, length-replicate {A = ℕ} (size s) 0))
 
   -- The method gives the deadlines ds exactly if the rules do ..
@@ -181,12 +181,12 @@ module _ (s : Subjobs) {others : Bool} (f : Fit s others) where
 
   -- Two lists of deadlines that the rules give a set are equal at every place.
   pub accepted_one : {d d' : ℕ → ℕ} → Accepted s d → Accepted s d' → (i : ℕ) → i < size s → d i ≡ d' i
-  accepted_one a a' i h = one-deadline (terms s) (lower_order s) (places (size s)) fit_ones a a' (in_places (size s) i h)
+  accepted_one a a' i h = one_deadline (terms s) (lower_order s) (places (size s)) fit_ones a a' (in_places (size s) i h)
 
   -- Two refusals are equal.
   pub refused_one : {p m p' m' : ℕ} → RefusedAt s p m → RefusedAt s p' m' → (p ≡ p') × (m ≡ m')
-  refused_one h h' = one-refusal (terms s) (lower_order s) (places (size s)) fit_ones h h'
+  refused_one h h' = one_refusal (terms s) (lower_order s) (places (size s)) fit_ones h h'
 
   -- No set is both accepted and refused.
   pub accepted_refused : {d : ℕ → ℕ} {p m : ℕ} → Accepted s d → RefusedAt s p m → ⊥
-  accepted_refused a h = not-both (terms s) (lower_order s) (places (size s)) fit_ones a h
+  accepted_refused a h = not_both (terms s) (lower_order s) (places (size s)) fit_ones a h

@@ -12,7 +12,7 @@ use Rattle.subjobs.specs.Terms.{terms}
 use Rattle.subjobs.specs.Faults.{Fit}
 use Rattle.subjobs.proofs.Rearranging.{Alike, alike_back, rearranged-size, rearranged_alike, rearranged_fit, taken_back}
 use Rattle.rules.specs.Method.{placed, stuck, method}
-use Rattle.rules.proofs.Renaming.{Renamed, renamed-accepts, renamed-refuses}
+use Rattle.rules.proofs.Renaming.{Renamed, renamed_accepts, renamed_refuses}
 use Rattle.rules.proofs.Obeys.{method-placed, method-stuck}
 
 pub alike_renamed :
@@ -50,9 +50,9 @@ module _ (ps : List ℕ) (s : Subjobs) (r : Rearranges ps (size s)) {others : Bo
   method_moved ds q =
       (method-placed (rearranged ps s) fit' (taken ps ds)).1 (
         taken-length ps (size s) r ds ∙ sym (rearranged-size ps s r),
-        renamed-accepts there (λ i. get_or ds i 0) (λ i. get_or (taken ps ds) i 0) (taken_back ps s r ds) ((method-placed s f ds).0 q).1,
+        renamed_accepts there (λ i. get_or ds i 0) (λ i. get_or (taken ps ds) i 0) (taken_back ps s r ds) ((method-placed s f ds).0 q).1,
       )
 
   pub method_stays : (p m : ℕ) → method s ≡ stuck p m → method (rearranged ps s) ≡ stuck (standing ps p) m
   method_stays p m q =
-      (method-stuck (rearranged ps s) fit' (standing ps p) m).1 (renamed-refuses there ((method-stuck s f p m).0 q))
+      (method-stuck (rearranged ps s) fit' (standing ps p) m).1 (renamed_refuses there ((method-stuck s f p m).0 q))

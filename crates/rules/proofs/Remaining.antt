@@ -17,7 +17,7 @@ use Rattle.lists.proofs.Choice.{Order}
 use Rattle.subjobs.specs.Terms.{Terms}
 use Rattle.subjobs.specs.Conditions.{Seven}
 use Rattle.rules.specs.Rules.{completion_of, Base, Turn, Accepts, over, place, Refuses, here, later, Remains, still, after}
-use Rattle.rules.proofs.Rules.{Ones, ones_without, accepts-turn, turn-falls}
+use Rattle.rules.proofs.Rules.{Ones, ones_without, accepts_turn, turn_falls}
 
 -- The upper bound of i lies before m.
 abbrev pub late : Terms → ℕ → ℕ → Bool
@@ -29,9 +29,9 @@ no_later d p i = leb (d i) (d p)
 
 module _ (T : Terms) where
   -- The base subset is the base subset of every part that has it whole ..
-  pub base-within :
+  pub base_within :
       (xs : List ℕ) (U W : ℕ → Bool) → ((i : ℕ) → Memᴰ i (filter U xs) → W i ≡ true) → Base T xs U → Base T (filter W xs) U
-  base-within xs U W h b =
+  base_within xs U W h b =
       let q = filter_within U W xs h in
       record {
         filled = λ e. b.filled (sym q ∙ e);
@@ -49,15 +49,15 @@ module _ (T : Terms) where
       }
 
   -- .. and so a turn is a turn of that part, with the same base subset.
-  pub turn-within :
+  pub turn_within :
       (xs : List ℕ) (W : ℕ → Bool) {b m : ℕ} (t : Turn T xs b m)
       → ((i : ℕ) → Memᴰ i (filter t.subset xs) → W i ≡ true)
       → (u : Turn T (filter W xs) b m) × (filter u.subset (filter W xs) ≡ filter t.subset xs)
-  turn-within xs W t h =
+  turn_within xs W t h =
       let q = filter_within t.subset W xs h in (
         record {
           subset = t.subset;
-          is_base = base-within xs t.subset W h t.is_base;
+          is_base = base_within xs t.subset W h t.is_base;
           is_job = rw q t.is_job;
           is_completion = t.is_completion ∙ sym (ap (completion_of T) q);
         },
@@ -65,11 +65,11 @@ module _ (T : Terms) where
       )
 
   -- Deadlines with (7) put some member of a base subset at its completion or later.
-  pub turn-reached :
+  pub turn_reached :
       (xs : List ℕ) (W : ℕ → Bool) {p m : ℕ} (t : Turn T (filter W xs) p m) (d : ℕ → ℕ)
       → Seven T d xs
       → (i : ℕ) × Memᴰ i (filter t.subset (filter W xs)) × (m ≤ d i)
-  turn-reached xs W t d h =
+  turn_reached xs W t d h =
       let q = filter_both t.subset W xs in
       let g = greatest_in d (filter t.subset (filter W xs)) t.is_base.filled in (
         g.0,
@@ -85,26 +85,26 @@ module _ (T : Terms) where
       )
 
   -- The step at which a list is refused.
-  pub refused-step :
+  pub refused_step :
       {p m : ℕ} {xs : List ℕ}
       → Refuses T p m xs
       → (ys : List ℕ) × Remains T xs ys × Turn T ys p m × (T.deadline p < m + T.withheld p)
-  refused-step {xs = xs} (here t h) = (xs, still, t, h)
-  refused-step (later b k t h f) = let w = refused-step f in (w.0, after b k t (omega arith) w.1, w.2, w.3)
+  refused_step {xs = xs} (here t h) = (xs, still, t, h)
+  refused_step (later b k t h f) = let w = refused_step f in (w.0, after b k t (omega arith) w.1, w.2, w.3)
 
   -- The step at which p of an accepted list is placed.
-  pub accepted-turn :
+  pub accepted_turn :
       {d : ℕ → ℕ} (xs : List ℕ)
       → Accepts T d xs
       → {p : ℕ}
       → Memᴰ p xs
       → (ys : List ℕ) × Remains T xs ys × Turn T ys p (d p) × (d p + T.withheld p ≤ T.deadline p)
-  accepted-turn xs over m = in_nil m
-  accepted-turn {d} xs (place b t h a) {p} m =
+  accepted_turn xs over m = in_nil m
+  accepted_turn {d} xs (place b t h a) {p} m =
       test (eqb p b)
       (λ y. let e = eqb-true p b y in (xs, still, rw e t, rw e h))
       (λ y.
-      let w = accepted-turn (without b xs) a (in_without b xs m (eqb-false p b y)) in
+      let w = accepted_turn (without b xs) a (in_without b xs m (eqb-false p b y)) in
       (w.0, after b (d b) t (omega arith) w.1, w.2, w.3))
 
   module _ (o : Order T.lower) where
@@ -117,26 +117,26 @@ module _ (T : Terms) where
         → Turn T xs b k
         → zs ≡ without b xs
         → m < k
-    falls-on still u xs b k ones t e = turn-falls T o xs ones t (rw e at u)
+    falls-on still u xs b k ones t e = turn_falls T o xs ones t (rw e at u)
     falls-on {zs} (after b' k' t' h r) u xs b k ones t e =
         omega (
           arith,
-          turn-falls T o xs ones t (rw e at t'),
+          turn_falls T o xs ones t (rw e at t'),
           falls-on r u zs b' k' (rw e (ones_without T.execution b xs ones)) t' refl,
         )
 
     -- Completions fall from a turn to all later ones.
-    pub remains-falls :
+    pub remains_falls :
         {xs ys : List ℕ} {b p k m : ℕ}
         → Ones T.execution xs
         → Turn T xs b k
         → Remains T (without b xs) ys
         → Turn T ys p m
         → m < k
-    remains-falls {xs} {b = b} {k = k} ones t r u = falls-on r u xs b k ones t refl
+    remains_falls {xs} {b = b} {k = k} ones t r u = falls-on r u xs b k ones t refl
 
     -- All that remains after b is placed gets smaller deadlines than b.
-    pub accepted-falls :
+    pub accepted_falls :
         {d : ℕ → ℕ} (xs : List ℕ) (b : ℕ)
         → Ones T.execution xs
         → Turn T xs b (d b)
@@ -144,18 +144,18 @@ module _ (T : Terms) where
         → {i : ℕ}
         → Memᴰ i (without b xs)
         → d i < d b
-    accepted-falls xs b ones t a m = let w = accepted-turn (without b xs) a m in remains-falls ones t w.1 w.2
+    accepted_falls xs b ones t a m = let w = accepted_turn (without b xs) a m in remains_falls ones t w.1 w.2
 
     -- Of an accepted list, at every step at which p has the turn those remain that have a deadline of at most p's.
-    pub accepted-remains :
+    pub accepted_remains :
         {d : ℕ → ℕ} {xs ys : List ℕ} {p m : ℕ}
         → Ones T.execution xs
         → Accepts T d xs
         → Remains T xs ys
         → Turn T ys p m
         → (d p ≡ m) × (ys ≡ filter (no_later d p) xs)
-    accepted-remains {d} {xs} {p = p} ones a still u =
-        let w = accepts-turn T o xs ones u a in
+    accepted_remains {d} {xs} {p = p} ones a still u =
+        let w = accepts_turn T o xs ones u a in
         let t = rw (← w.0) at u in (
           w.0,
           sym
@@ -164,42 +164,42 @@ module _ (T : Terms) where
               test (no_later d p i) (λ y. y)
               (λ n.
               absurd
-              (omega (tests, accepted-falls xs p ones t w.2 (in_without p xs k (λ e. omega (tests, ap d e)))))))),
+              (omega (tests, accepted_falls xs p ones t w.2 (in_without p xs k (λ e. omega (tests, ap d e)))))))),
         )
-    accepted-remains {d} {xs} {p = p} ones a (after b k t h r) u =
-        let w = accepts-turn T o xs ones t a in
-        let q = accepted-remains (ones_without T.execution b xs ones) w.2 r u in (
+    accepted_remains {d} {xs} {p = p} ones a (after b k t h r) u =
+        let w = accepts_turn T o xs ones t a in
+        let q = accepted_remains (ones_without T.execution b xs ones) w.2 r u in (
           q.0,
-          q.1 ∙ filter-without (no_later d p) b xs (lt-leb (d b) (d p) (omega (arith, w.0, q.0, remains-falls ones t r u))),
+          q.1 ∙ filter-without (no_later d p) b xs (lt-leb (d b) (d p) (omega (arith, w.0, q.0, remains_falls ones t r u))),
         )
 
     -- So p is placed when exactly those remain.
-    pub accepted-step :
+    pub accepted_step :
         {d : ℕ → ℕ} (xs : List ℕ)
         → Ones T.execution xs
         → Accepts T d xs
         → {p : ℕ}
         → Memᴰ p xs
         → Remains T xs (filter (no_later d p) xs) × Turn T (filter (no_later d p) xs) p (d p)
-    accepted-step xs ones a m =
-        let w = accepted-turn xs a m in
-        rw (← (accepted-remains ones a w.1 w.2).1) (w.1, w.2)
+    accepted_step xs ones a m =
+        let w = accepted_turn xs a m in
+        rw (← (accepted_remains ones a w.1 w.2).1) (w.1, w.2)
 
     -- Nobody who has left is late: all late ones remain.
-    pub remains-late :
+    pub remains_late :
         {xs ys : List ℕ} {p m : ℕ}
         → Ones T.execution xs
         → Remains T xs ys
         → Turn T ys p m
         → filter (late T m) ys ≡ filter (late T m) xs
-    remains-late ones still u = refl
-    remains-late {xs} {m = m} ones (after b k t h r) u =
-        remains-late (ones_without T.execution b xs ones) r u
+    remains_late ones still u = refl
+    remains_late {xs} {m = m} ones (after b k t h r) u =
+        remains_late (ones_without T.execution b xs ones) r u
         ∙ filter-without (late T m) b xs
-        (le-ltb (T.deadline b) (m + T.withheld b) (omega (arith, remains-falls ones t r u)))
+        (le-ltb (T.deadline b) (m + T.withheld b) (omega (arith, remains_falls ones t r u)))
 
     -- At a refused step all of the base subset are late, and so it is the base subset of the late ones.
-    pub refused-late :
+    pub refused_late :
         ((i j : ℕ) → T.lower i j ≡ true → T.deadline i + T.withheld j ≤ T.deadline j + T.withheld i)
         → {xs ys : List ℕ} {p m : ℕ}
         → Ones T.execution xs
@@ -207,9 +207,9 @@ module _ (T : Terms) where
         → (t : Turn T ys p m)
         → T.deadline p < m + T.withheld p
         → (u : Turn T (filter (late T m) xs) p m) × (filter u.subset (filter (late T m) xs) ≡ filter t.subset ys)
-    refused-late bounds {xs} {ys} {p} {m} ones r t h =
-        rw (← remains-late ones r t)
-        (turn-within ys (late T m) t
+    refused_late bounds {xs} {ys} {p} {m} ones r t h =
+        rw (← remains_late ones r t)
+        (turn_within ys (late T m) t
         (λ i k.
         lt-ltb (T.deadline i) (m + T.withheld i)
         (split (t.is_job.1 i k)

@@ -14,7 +14,7 @@ use Rattle.lists.specs.Places.{filter, without, least}
 use Rattle.lists.specs.Order.{Last}
 use Rattle.lists.proofs.Cases.{split, test}
 use Rattle.lists.proofs.Members.{filter_in, filter_cong}
-use Rattle.lists.proofs.Renamed.{Moved, moved-filter, moved_in, moved-from, moved-filled, filled-moved, moved-nil, moved-weight, moved-least, moved-greatest, moved_back, moved-home, moved-agree}
+use Rattle.lists.proofs.Renamed.{Moved, moved_filter, moved_in, moved_from, moved_filled, filled_moved, moved_nil, moved_weight, moved_least, moved_greatest, moved_back, moved_home, moved_agree}
 use lib.IntN.{ℤ}
 use Rattle.subjobs.specs.Terms.{Terms, slack}
 use Rattle.subjobs.specs.Conditions.{Six, Seven}
@@ -36,12 +36,12 @@ turn_in {xs = xs} t = (filter_in t.subset xs t.is_job.0).0
 
 module _ {π ρ : ℕ → ℕ} {T T' : Terms} where
   -- With a group its subsets are renamed: a subset of the new places ..
-  pub renamed-filter :
+  pub renamed_filter :
       {xs ys : List ℕ} → Renamed π ρ T T' xs ys → (U : ℕ → Bool) → Renamed π ρ T T' (filter (λ i. U (π i)) xs) (filter U ys)
-  renamed-filter {xs} {ys} e U =
+  renamed_filter {xs} {ys} e U =
       let of : (i : ℕ) → Memᴰ i (filter (λ j. U (π j)) xs) → Memᴰ i xs = λ i m. (filter_in (λ j. U (π j)) xs m).0 in
       record {
-        moved = moved-filter π xs ys e.moved U;
+        moved = moved_filter π xs ys e.moved U;
         back = λ i m. e.back i (of i m);
         release = λ i m. e.release i (of i m);
         execution = λ i m. e.execution i (of i m);
@@ -51,17 +51,17 @@ module _ {π ρ : ℕ → ℕ} {T T' : Terms} where
       }
 
   -- .. a subset of the old places ..
-  pub renamed-picked :
+  pub renamed_picked :
       {xs ys : List ℕ} → Renamed π ρ T T' xs ys → (U : ℕ → Bool) → Renamed π ρ T T' (filter U xs) (filter (λ j. U (ρ j)) ys)
-  renamed-picked {xs} e U =
-      rw (filter_cong U (λ i. U (ρ (π i))) xs (λ i m. ap U (sym (e.back i m)))) (renamed-filter e (λ j. U (ρ j)))
+  renamed_picked {xs} e U =
+      rw (filter_cong U (λ i. U (ρ (π i))) xs (λ i m. ap U (sym (e.back i m)))) (renamed_filter e (λ j. U (ρ j)))
 
   -- .. and the rest without one sub-job.
-  pub renamed-without :
+  pub renamed_without :
       {xs ys : List ℕ} → Renamed π ρ T T' xs ys → {b : ℕ} → Memᴰ b xs → Renamed π ρ T T' (without b xs) (without (π b) ys)
-  renamed-without {xs} e {b} k =
+  renamed_without {xs} e {b} k =
       rw (filter_cong (λ i. not (eqb i b)) (λ i. not (eqb (π i) (π b))) xs (λ i m. ap not (alike i m)))
-      (renamed-filter e (λ j. not (eqb j (π b))))
+      (renamed_filter e (λ j. not (eqb j (π b))))
     where
       alike : (i : ℕ) → Memᴰ i xs → eqb i b ≡ eqb (π i) (π b)
       alike i m =
@@ -86,51 +86,51 @@ module _ {π ρ : ℕ → ℕ} {T T' : Terms} where
       }
     where
       home : {j : ℕ} → Memᴰ j ys → Memᴰ (ρ j) xs × (π (ρ j) ≡ j)
-      home m = moved-home π xs ys e.moved ρ e.back m
+      home m = moved_home π xs ys e.moved ρ e.back m
 
       agree : (f g : ℕ → ℕ) → ((i : ℕ) → Memᴰ i xs → f i ≡ g (π i)) → (j : ℕ) → Memᴰ j ys → g j ≡ f (ρ j)
-      agree = moved-agree π xs ys e.moved ρ e.back
+      agree = moved_agree π xs ys e.moved ρ e.back
 
   renamed_least : {xs ys : List ℕ} → Renamed π ρ T T' xs ys → least T.release xs ≡ least T'.release ys
-  renamed_least {xs} {ys} e = moved-least π xs ys e.moved T.release T'.release e.release
+  renamed_least {xs} {ys} e = moved_least π xs ys e.moved T.release T'.release e.release
 
   -- A group and its new places complete at the same moment.
   pub renamed_completion : {xs ys : List ℕ} → Renamed π ρ T T' xs ys → completion_of T xs ≡ completion_of T' ys
   renamed_completion {xs} {ys} e =
-      omega (arith, renamed_least e, moved-weight π xs ys e.moved T.execution T'.execution e.execution)
+      omega (arith, renamed_least e, moved_weight π xs ys e.moved T.execution T'.execution e.execution)
 
   -- The base subset of the new places is the base subset, renamed.
   pub renamed_base : {xs ys : List ℕ} → Renamed π ρ T T' xs ys → {U : ℕ → Bool} → Base T xs U → Base T' ys (λ j. U (ρ j))
   renamed_base {xs} {ys} e {U} h =
-      let u : Renamed π ρ T T' (filter U xs) (filter (λ j. U (ρ j)) ys) = renamed-picked e U in
+      let u : Renamed π ρ T T' (filter U xs) (filter (λ j. U (ρ j)) ys) = renamed_picked e U in
       let k = renamed_completion u in
       record {
-        filled = moved-filled π (filter U xs) (filter (λ j. U (ρ j)) ys) u.moved h.filled;
+        filled = moved_filled π (filter U xs) (filter (λ j. U (ρ j)) ys) u.moved h.filled;
         most = λ X q.
-            let x = renamed-filter e X in
+            let x = renamed_filter e X in
             omega (
               arith,
               k,
               renamed_completion x,
-              h.most (λ i. X (π i)) (filled-moved π (filter (λ i. X (π i)) xs) (filter X ys) x.moved q),
+              h.most (λ i. X (π i)) (filled_moved π (filter (λ i. X (π i)) xs) (filter X ys) x.moved q),
             );
         latest = λ X q w.
-            let x = renamed-filter e X in
+            let x = renamed_filter e X in
             omega (
               arith,
               renamed_least x,
               renamed_least u,
-              h.latest (λ i. X (π i)) (filled-moved π (filter (λ i. X (π i)) xs) (filter X ys) x.moved q)
+              h.latest (λ i. X (π i)) (filled_moved π (filter (λ i. X (π i)) xs) (filter X ys) x.moved q)
                   (renamed_completion x ∙ w ∙ sym k),
             );
       }
 
-  renamed-last :
+  renamed_last :
       {xs ys : List ℕ} → Renamed π ρ T T' xs ys → {b : ℕ} → Last T.lower xs b → Last T'.lower ys (π b)
-  renamed-last {xs} {ys} e {b} l = (
+  renamed_last {xs} {ys} e {b} l = (
     moved_in π xs ys e.moved l.0,
     λ j m.
-        let w = moved-from π xs ys e.moved m in
+        let w = moved_from π xs ys e.moved m in
         split (l.1 w.0 w.1)
         (λ q. inl (sym w.2 ∙ ap π q))
         (λ q. inr (rw w.2 at (sym (e.lower w.0 b w.1 l.0) ∙ q))),
@@ -139,11 +139,11 @@ module _ {π ρ : ℕ → ℕ} {T T' : Terms} where
   -- A turn, renamed, is a turn.
   pub renamed_turn : {xs ys : List ℕ} → Renamed π ρ T T' xs ys → {b m : ℕ} → Turn T xs b m → Turn T' ys (π b) m
   renamed_turn e t =
-      let u = renamed-picked e t.subset in
+      let u = renamed_picked e t.subset in
       record {
         subset = λ j. t.subset (ρ j);
         is_base = renamed_base e t.is_base;
-        is_job = renamed-last u t.is_job;
+        is_job = renamed_last u t.is_job;
         is_completion = t.is_completion ∙ renamed_completion u;
       }
 
@@ -154,22 +154,22 @@ module _ {π ρ : ℕ → ℕ} {T T' : Terms} where
       → ((i : ℕ) → Memᴰ i xs → d i ≡ d' (π i))
       → Accepts T d xs
       → Accepts T' d' ys
-  accepts-on d d' {xs} {ys} e same over = rw (moved-nil π [] ys e.moved refl) over
+  accepts-on d d' {xs} {ys} e same over = rw (moved_nil π [] ys e.moved refl) over
   accepts-on d d' {xs} {ys} e same (place b t h a) =
       let k = turn_in t in
       let q = same b k in
       place (π b) (rw q at (renamed_turn e t)) (omega (arith, e.deadline b k, e.withheld b k))
-      (accepts-on d d' (renamed-without e k) (λ i m. same i (filter_in (λ j. not (eqb j b)) xs m).0) a)
+      (accepts-on d d' (renamed_without e k) (λ i m. same i (filter_in (λ j. not (eqb j b)) xs m).0) a)
 
   -- What the rules give xs, they give the new places.
-  pub renamed-accepts :
+  pub renamed_accepts :
       {xs ys : List ℕ}
       → Renamed π ρ T T' xs ys
       → (d d' : ℕ → ℕ)
       → ((i : ℕ) → Memᴰ i xs → d i ≡ d' (π i))
       → Accepts T d xs
       → Accepts T' d' ys
-  renamed-accepts e d d' same a = accepts-on d d' e same a
+  renamed_accepts e d d' same a = accepts-on d d' e same a
 
   refuses-on : {p m : ℕ} {xs ys : List ℕ} → Renamed π ρ T T' xs ys → Refuses T p m xs → Refuses T' (π p) m ys
   refuses-on {p} e (here t h) =
@@ -177,19 +177,19 @@ module _ {π ρ : ℕ → ℕ} {T T' : Terms} where
       here (renamed_turn e t) (omega (arith, e.deadline p k, e.withheld p k))
   refuses-on e (later b m t h a) =
       let k = turn_in t in
-      later (π b) m (renamed_turn e t) (omega (arith, e.deadline b k, e.withheld b k)) (refuses-on (renamed-without e k) a)
+      later (π b) m (renamed_turn e t) (omega (arith, e.deadline b k, e.withheld b k)) (refuses-on (renamed_without e k) a)
 
   -- Where the rules refuse xs, they refuse the new places.
-  pub renamed-refuses :
+  pub renamed_refuses :
       {xs ys : List ℕ} → Renamed π ρ T T' xs ys → {p m : ℕ} → Refuses T p m xs → Refuses T' (π p) m ys
-  renamed-refuses e f = refuses-on e f
+  renamed_refuses e f = refuses-on e f
 
   -- The conditions, the slacks and the least of them, of deadlines d of xs that are the deadlines d' of the new places.
   module _ {xs ys : List ℕ} (e : Renamed π ρ T T' xs ys) (d d' : ℕ → ℕ) (same : (i : ℕ) → Memᴰ i xs → d i ≡ d' (π i)) where
     -- Condition (6).
-    pub renamed-six : Six T d xs → Six T' d' ys
-    renamed-six h j m =
-        let w = moved-from π xs ys e.moved m in
+    pub renamed_six : Six T d xs → Six T' d' ys
+    renamed_six h j m =
+        let w = moved_from π xs ys e.moved m in
         let k = h w.0 w.1 in
         rw (← w.2) (
           omega (arith, k.0, same w.0 w.1, e.release w.0 w.1, e.execution w.0 w.1),
@@ -197,28 +197,28 @@ module _ {π ρ : ℕ → ℕ} {T T' : Terms} where
         )
 
     -- Condition (7).
-    pub renamed-seven : Seven T d xs → Seven T' d' ys
-    renamed-seven h U n =
+    pub renamed_seven : Seven T d xs → Seven T' d' ys
+    renamed_seven h U n =
         let X : ℕ → Bool = λ i. U (π i) in
-        let u = renamed-filter e U in
+        let u = renamed_filter e U in
         omega (
           arith,
-          h X (filled-moved π (filter X xs) (filter U ys) u.moved n),
+          h X (filled_moved π (filter X xs) (filter U ys) u.moved n),
           renamed_completion u,
-          moved-greatest π (filter X xs) (filter U ys) u.moved d d' (λ i m. same i (filter_in X xs m).0),
+          moved_greatest π (filter X xs) (filter U ys) u.moved d d' (λ i m. same i (filter_in X xs m).0),
         )
 
     -- A slack is what it was.
-    pub renamed-slack : (i : ℕ) → Memᴰ i xs → slack T d i ≡ slack T' d' (π i)
-    renamed-slack i m = rw (e.deadline i m, e.withheld i m, same i m)
+    pub renamed_slack : (i : ℕ) → Memᴰ i xs → slack T d i ≡ slack T' d' (π i)
+    renamed_slack i m = rw (e.deadline i m, e.withheld i m, same i m)
 
     -- So is the least of them.
-    pub renamed-least-slack : (x : ℤ) → LeastSlack T d xs x → LeastSlack T' d' ys x
-    renamed-least-slack x h = (
-      (π h.0.0, moved_in π xs ys e.moved h.0.1, sym (renamed-slack h.0.0 h.0.1) ∙ h.0.2),
+    pub renamed_least_slack : (x : ℤ) → LeastSlack T d xs x → LeastSlack T' d' ys x
+    renamed_least_slack x h = (
+      (π h.0.0, moved_in π xs ys e.moved h.0.1, sym (renamed_slack h.0.0 h.0.1) ∙ h.0.2),
       λ j m.
-          let w = moved-from π xs ys e.moved m in
-          rw (← w.2, ← renamed-slack w.0 w.1) (h.1 w.0 w.1),
+          let w = moved_from π xs ys e.moved m in
+          rw (← w.2, ← renamed_slack w.0 w.1) (h.1 w.0 w.1),
     )
 
 -- Both ways at once.
@@ -229,6 +229,6 @@ pub accepts_renamed :
     → Accepts T (λ i. d (π i)) xs ↔ Accepts T' d ys
 accepts_renamed {π} e d =
     let f = renamed_back e in (
-      renamed-accepts e (λ i. d (π i)) d (λ i m. refl),
-      renamed-accepts f d (λ i. d (π i)) (λ j m. ap d (sym (f.back j m))),
+      renamed_accepts e (λ i. d (π i)) d (λ i m. refl),
+      renamed_accepts f d (λ i. d (π i)) (λ j m. ap d (sym (f.back j m))),
     )

@@ -25,12 +25,12 @@ module _ (r c : ℕ → ℕ) where
   base-nil = refl
 
   -- What `base` and `best` do at the head: the whole list is the base, or the head is passed.
-  pub base-cases :
+  pub base_cases :
       (x : ℕ) (xs : List ℕ)
       → ((best r c xs < r x + (c x + weight c xs)) × (base r c (x ∷ xs) ≡ x ∷ xs) × (best r c (x ∷ xs) ≡ r x + (c x + weight c xs)))
       ⊎ ((r x + (c x + weight c xs) ≤ best r c xs) × (base r c (x ∷ xs) ≡ base r c xs) × (best r c (x ∷ xs) ≡ best r c xs))
   unfolding best base
-  base-cases x xs =
+  base_cases x xs =
       let w = weight-cons c x xs in
       test (ltb (best r c xs) (r x + weight c (x ∷ xs)))
       (λ e. inl (omega tests, rw e, omega tests))
@@ -38,7 +38,7 @@ module _ (r c : ℕ → ℕ) where
 
   -- The best is at least the whole list's completion and the best of the list behind the head.
   pub best_ge : (x : ℕ) (xs : List ℕ) → (r x + (c x + weight c xs) ≤ best r c (x ∷ xs)) × (best r c xs ≤ best r c (x ∷ xs))
-  best_ge x xs = split (base-cases x xs) (λ b. omega arith) (λ b. omega arith)
+  best_ge x xs = split (base_cases x xs) (λ b. omega arith) (λ b. omega arith)
 
   completion-nil : completion r c [] ≡ 0
   unfolding least weight
@@ -68,14 +68,14 @@ module _ (r c : ℕ → ℕ) where
   -- The members of the base are members of the list.
   pub base_in : (xs : List ℕ) {i : ℕ} → Memᴰ i (base r c xs) → Memᴰ i xs
   base_in [] m = rw base-nil at m
-  base_in (x ∷ xs) m = split (base-cases x xs) (λ b. rw b.1 at m) (λ b. Memᴰ.tail (base_in xs (rw b.1 at m)))
+  base_in (x ∷ xs) m = split (base_cases x xs) (λ b. rw b.1 at m) (λ b. Memᴰ.tail (base_in xs (rw b.1 at m)))
 
   -- The base weighs no more than the list.
   pub weight-base : (f : ℕ → ℕ) (xs : List ℕ) → weight f (base r c xs) ≤ weight f xs
   weight-base f [] = omega (arith, ap (weight f) base-nil)
   weight-base f (x ∷ xs) =
       let ih = weight-base f xs in
-      split (base-cases x xs)
+      split (base_cases x xs)
       (λ b. omega (arith, ap (weight f) b.1))
       (λ b. omega (arith, ap (weight f) b.1, weight-cons f x xs))
 
@@ -83,7 +83,7 @@ module _ (r c : ℕ → ℕ) where
   pub attained : (xs : List ℕ) → InOrder r xs → completion r c (base r c xs) ≡ best r c xs
   attained [] s = ap (completion r c) base-nil ∙ completion-nil ∙ sym best-nil
   attained (x ∷ xs) s =
-      split (base-cases x xs)
+      split (base_cases x xs)
       (λ b. omega (arith, ap (completion r c) b.1, least_inorder r x xs s.0, weight-cons c x xs))
       (λ b. omega (arith, ap (completion r c) b.1, attained xs s.1))
 
@@ -95,7 +95,7 @@ module _ (r c : ℕ → ℕ) where
   pub base_filled : (xs : List ℕ) → ((i : ℕ) → Memᴰ i xs → 1 ≤ c i) → base r c xs ≡ [] → xs ≡ []
   base_filled [] ones e = refl
   base_filled (x ∷ xs) ones e =
-      split (base-cases x xs)
+      split (base_cases x xs)
       (λ b. cons-nil (sym b.1 ∙ e))
       (λ b.
       let n = base_filled xs (λ i m. ones i (Memᴰ.tail m)) (sym b.1 ∙ e) in
@@ -107,7 +107,7 @@ module _ (r c : ℕ → ℕ) where
   latest U (x ∷ xs) s h =
       let t = t1_le U xs in
       let f = filter_cases U x xs in
-      split (base-cases x xs)
+      split (base_cases x xs)
       (λ b.
       split f
       (λ q.
@@ -121,11 +121,11 @@ module _ (r c : ℕ → ℕ) where
       (λ q. omega (arith, ap (least r) q.1, ap (least r) b.1, latest U xs s.1 (sym (ap (completion r c) q.1) ∙ h ∙ b.2))))
 
   -- The base is all those released at or after one release: the one at which it starts.
-  pub base-threshold :
+  pub base_threshold :
       (xs : List ℕ) → InOrder r xs → ((i : ℕ) → Memᴰ i xs → 1 ≤ c i) → base r c xs ≡ filter (λ i. leb (least r (base r c xs)) (r i)) xs
-  base-threshold [] s ones = base-nil ∙ sym (filter-nil _)
-  base-threshold (x ∷ xs) s ones =
-      split (base-cases x xs)
+  base_threshold [] s ones = base-nil ∙ sym (filter-nil _)
+  base_threshold (x ∷ xs) s ones =
+      split (base_cases x xs)
       (λ b.
       b.1
       ∙ sym
@@ -137,7 +137,7 @@ module _ (r c : ℕ → ℕ) where
       (λ q.
       absurd
       (omega (arith, leb-true (least r (base r c xs)) (r x) q.0, passed x xs s.1 b.0, ones x (Memᴰ.head refl))))
-      (λ q. base-threshold xs s.1 (λ i m. ones i (Memᴰ.tail m)) ∙ sym q.1)))
+      (λ q. base_threshold xs s.1 (λ i m. ones i (Memᴰ.tail m)) ∙ sym q.1)))
 
   -- A subset that completes at the best and starts where the base does is the base.
   pub unique :
@@ -149,7 +149,7 @@ module _ (r c : ℕ → ℕ) where
       → filter U xs ≡ base r c xs
   unique U xs s ones h l =
       let X : ℕ → Bool = λ i. leb (least r (base r c xs)) (r i) in
-      let e : base r c xs ≡ filter X xs = base-threshold xs s ones in
+      let e : base r c xs ≡ filter X xs = base_threshold xs s ones in
       let q : filter U (filter X xs) ≡ filter U xs =
       filter_within U X xs (λ i m. le-leb (least r (base r c xs)) (r i) (omega (arith, least_le r (filter U xs) m)))
       in

@@ -16,7 +16,7 @@ use Rattle.subjobs.specs.declared.Reason.{Reason}
 use Rattle.subjobs.specs.declared.Reason.TheVariants.{Lengths, TooLarge}
 use Rattle.subjobs.specs.Sets.{size}
 use Rattle.subjobs.specs.Judging.{one_length}
-use Rattle.subjobs.proofs.Exactly.{Exactly, passing, refusing, exactly-so, exactly_test, exactly_or}
+use Rattle.subjobs.proofs.Exactly.{Exactly, passing, refusing, exactly_so, exactly_test, exactly_or}
 use Rattle.subjobs.proofs.Fit.{one_length_lem, all_one_length}
 use Rattle.stretches.specs.Answers as answers
 use Rattle.stretches.specs.Answers.{Room, judgement}
@@ -51,7 +51,7 @@ module _ (R : Room) where
   pub judged : Exactly (judgement R) (Fit R) (Faulty R)
   unfolding judgement
   judged =
-      exactly-so
+      exactly_so
       (exactly_or (exactly_test fitting Lengths whole whole_fits)
       (exactly_test (answers.few (length R.lengths) (size R.sets)) TooLarge few_so (λ f. rw (le-leb _ _ f.sets, le-leb _ _ f.places))))
       (λ h. record { whole = h.0; few = h.1 })

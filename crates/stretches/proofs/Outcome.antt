@@ -14,7 +14,7 @@ use Rattle.olda.proofs.Results.{results-length}
 use Rattle.stretches.specs.Stretches.{stretch, start, each}
 use Rattle.stretches.specs.Answers.{Room, set_at, answer_at, results_at, number, place, judgement, deadlines_after, numbers_after, places_after}
 use Rattle.stretches.specs.Faults.{Fit}
-use Rattle.stretches.proofs.Stretched.{each-length, each_at, start_left, joined_length, joined-stretch}
+use Rattle.stretches.proofs.Stretched.{each-length, each_at, start_left, joined_length, joined_stretch}
 use Rattle.stretches.proofs.Judged.{read_exactly}
 
 -- A room that is refused keeps its lists.
@@ -72,14 +72,14 @@ module _ (R : Room) (F : Fit R) where
   after_length = rw read_deadlines (joined_length 1 (results_at R.sets R.deadlines) ns long ∙ omega (arith, F.whole.sum))
 
   module _ (k : ℕ) (h : k < length ns) where
-    pub number-told : get_or (numbers_after R) k 0 ≡ number (answer_at R.sets (start ns k) (get_or ns k 0))
-    number-told = rw read_numbers (each_at (λ a n. number (answer_at R.sets a n)) 0 ns k h)
+    pub number_told : get_or (numbers_after R) k 0 ≡ number (answer_at R.sets (start ns k) (get_or ns k 0))
+    number_told = rw read_numbers (each_at (λ a n. number (answer_at R.sets a n)) 0 ns k h)
 
-    pub place-told : get_or (places_after R) k 0 ≡ place (answer_at R.sets (start ns k) (get_or ns k 0))
-    place-told = rw read_places (each_at (λ a n. place (answer_at R.sets a n)) 0 ns k h)
+    pub place_told : get_or (places_after R) k 0 ≡ place (answer_at R.sets (start ns k) (get_or ns k 0))
+    place_told = rw read_places (each_at (λ a n. place (answer_at R.sets a n)) 0 ns k h)
 
-    pub stretch-left : stretch (start ns k) (get_or ns k 0) (deadlines_after R) ≡ results_at R.sets R.deadlines (start ns k) (get_or ns k 0)
-    stretch-left =
+    pub stretch_left : stretch (start ns k) (get_or ns k 0) (deadlines_after R) ≡ results_at R.sets R.deadlines (start ns k) (get_or ns k 0)
+    stretch_left =
         let a : 1 * start ns k ≡ start ns k = omega arith in
         let n : 1 * get_or ns k 0 ≡ get_or ns k 0 = omega arith in
-        rw read_deadlines (rw (a, n) at (joined-stretch 1 (results_at R.sets R.deadlines) ns long k h))
+        rw read_deadlines (rw (a, n) at (joined_stretch 1 (results_at R.sets R.deadlines) ns long k h))

@@ -79,14 +79,14 @@ module _ (w : ℕ) (g : ℕ → ℕ → List ℕ) (ns old : List ℕ) where
     written_start = omega (arith, W.begun, start_left ns k)
 
     -- The stretch of the next set is as found.
-    pub written-stretch : (b m : ℕ) → b ≡ w * a → stretch b m new ≡ stretch b m old
-    written-stretch b m e = ap (take m) (rw e W.rest)
+    pub written_stretch : (b m : ℕ) → b ≡ w * a → stretch b m new ≡ stretch b m old
+    written_stretch b m e = ap (take m) (rw e W.rest)
 
     module _ (h : k < length ns) (n : ℕ) (en : n ≡ get_or ns k 0) where
-      pub written-inside : a + n ≤ total ns
-      written-inside = omega (arith, W.begun, total_left ns k h)
+      pub written_inside : a + n ≤ total ns
+      written_inside = omega (arith, W.begun, total_left ns k h)
 
-      pub written-more :
+      pub written_more :
           (b m : ℕ) (v new' : List ℕ)
           → b ≡ w * a
           → m ≡ w * n
@@ -95,7 +95,7 @@ module _ (w : ℕ) (g : ℕ → ℕ → List ℕ) (ns old : List ℕ) where
           → length v ≡ m
           → new' ≡ replaced b m v new
           → Written w g ns old new' (a + n) (k + 1)
-      written-more b m v new' eb em i ev lv e =
+      written_more b m v new' eb em i ev lv e =
           let behind : w * (a + n) ≡ b + m = omega arith in
           let cut : new' ≡ take b new ++ v ++ drop (b + m) new =
           e ∙ ap (λ (l : List ℕ). take b new ++ (v ++ l)) (drop-drop m b new) ∙ sym (append_assoc (take b new) v (drop (b + m) new))
@@ -155,30 +155,30 @@ module _ (w : ℕ) (g : ℕ → ℕ → List ℕ) where
       rw (each-cons g a n ns, flatten-cons, length-append (g a n) (flatten (each g (a + n) ns)))
       (omega (arith, first_long a n ns l, flat_length (a + n) ns (next_long a n ns l), scaled_cons w n ns))
 
-  flat-from :
+  flat_from :
       (a : ℕ) (ns : List ℕ) → Long a ns → (k : ℕ) → k < length ns
       → stretch (w * start ns k) (w * get_or ns k 0) (flatten (each g a ns)) ≡ g (a + start ns k) (get_or ns k 0)
-  flat-from a [] l k h = absurd (omega arith)
-  flat-from a (n ∷ ns) l zero h =
+  flat_from a [] l k h = absurd (omega arith)
+  flat_from a (n ∷ ns) l zero h =
       rw (scaled_nil w, first_start a n ns, each-cons g a n ns, flatten-cons)
       (take_at (g a n) (flatten (each g (a + n) ns)) (w * n) (first_long a n ns l))
-  flat-from a (n ∷ ns) l (suc k) h =
+  flat_from a (n ∷ ns) l (suc k) h =
       let f = g a n in
       let rest = flatten (each g (a + n) ns) in
       let e : w * start (n ∷ ns) (suc k) ≡ length f + w * start ns k =
       omega (arith, first_long a n ns l, scaled_cons w n (take k ns))
       in
       rw (e, next_start a n ns k, each-cons g a n ns, flatten-cons, drop-append-add f rest (w * start ns k))
-      (flat-from (a + n) ns (next_long a n ns l) k (omega arith))
+      (flat_from (a + n) ns (next_long a n ns l) k (omega arith))
 
   module _ (ns : List ℕ) (l : Long 0 ns) where
     pub joined_length : length (flatten (each g 0 ns)) ≡ w * total ns
     joined_length = flat_length 0 ns l
 
-    pub joined-stretch :
+    pub joined_stretch :
         (k : ℕ) → k < length ns
         → stretch (w * start ns k) (w * get_or ns k 0) (flatten (each g 0 ns)) ≡ g (start ns k) (get_or ns k 0)
-    joined-stretch k h = flat-from 0 ns l k h ∙ ap (λ (x : ℕ). g x (get_or ns k 0)) (omega arith)
+    joined_stretch k h = flat_from 0 ns l k h ∙ ap (λ (x : ℕ). g x (get_or ns k 0)) (omega arith)
 
 -- Two lists with the same stretches are the same.
 pub same_stretches :

@@ -90,24 +90,24 @@ lower_edges = (refl, refl, refl, refl)
 
 -- The order of the base sub-job: by upper bounds, then by pairs. Where no pair stands twice it parts any two.
 module _ (s : Subjobs) where
-  abbrev byBounds : ℕ → ℕ → Bool
-  byBounds = by_bound (deadline s) (withheld s)
+  abbrev by_bounds : ℕ → ℕ → Bool
+  by_bounds = by_bound (deadline s) (withheld s)
 
-  abbrev byPairs : ℕ → ℕ → Bool
-  byPairs = by_pair (job s) (subtask s)
+  abbrev by_pairs : ℕ → ℕ → Bool
+  by_pairs = by_pair (job s) (subtask s)
 
   pub lower_order : Order (lower s)
-  lower_order = lex_order byBounds byPairs (bound_order (deadline s) (withheld s)) (pair_order (job s) (subtask s))
+  lower_order = lex_order by_bounds by_pairs (bound_order (deadline s) (withheld s)) (pair_order (job s) (subtask s))
 
   pub lower_total : NoneTwice s (size s) → Total (lower s) (places (size s))
   lower_total pairs =
-      lex_total byBounds byPairs (bound_order (deadline s) (withheld s)) (places (size s)) (pair_total s (size s) pairs)
+      lex_total by_bounds by_pairs (bound_order (deadline s) (withheld s)) (places (size s)) (pair_total s (size s) pairs)
 
   -- It says what it is read as.
   module _ (i j : ℕ) where
-    lower-behind : lower s i j ≡ true → Behind s i j
-    lower-behind h =
-        split (lex_yes byBounds byPairs i j h)
+    lower_behind : lower s i j ≡ true → Behind s i j
+    lower_behind h =
+        split (lex_yes by_bounds by_pairs i j h)
         (λ y. inl (sym (bound_less (terms s) i j) ∙ y))
         (λ y.
         let a = y.0 in
@@ -119,13 +119,13 @@ module _ (s : Subjobs) where
               (λ q. let c = q.0 in let d = q.1 in inr (omega tests, ltb-true (subtask s i) (subtask s j) q.2)),
         ))
 
-    behind-lower : Behind s i j → lower s i j ≡ true
-    behind-lower h =
+    behind_lower : Behind s i j → lower s i j ≡ true
+    behind_lower h =
         split h
-        (λ y. yes_lex byBounds byPairs i j (bound_less (terms s) i j ∙ y))
+        (λ y. yes_lex by_bounds by_pairs i j (bound_less (terms s) i j ∙ y))
         (λ y.
         let T = terms s in
-        tie_lex byBounds byPairs i j
+        tie_lex by_bounds by_pairs i j
         (bound_less T i j ∙ rw y.0 (sym (bound_less T j j) ∙ (bound_order (deadline s) (withheld s)).irrefl j))
         (bound_less T j i ∙ rw y.0 (sym (bound_less T j j) ∙ (bound_order (deadline s) (withheld s)).irrefl j))
         ∙ split y.1
@@ -134,5 +134,5 @@ module _ (s : Subjobs) where
         let e = q.0 in
         tie_lex (by (job s)) (by (subtask s)) i j (omega tested) (omega tested) ∙ lt-ltb (subtask s i) (subtask s j) q.1))
 
-    pub lower-says : (lower s i j ≡ true) ↔ Behind s i j
-    lower-says = (lower-behind, behind-lower)
+    pub lower_says : (lower s i j ≡ true) ↔ Behind s i j
+    lower_says = (lower_behind, behind_lower)

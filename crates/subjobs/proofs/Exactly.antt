@@ -36,14 +36,14 @@ module _ {j : Judgement} {P : Type 0} {Q : Reason → Type 0} (x : Exactly j P Q
   )
 
   -- The same in other words.
-  pub exactly-so :
+  pub exactly_so :
       {P' : Type 0} {Q' : Reason → Type 0}
       → (P → P')
       → (P' → P)
       → ((r : Reason) → Q r → Q' r)
       → ((r : Reason) → Q' r → Q r)
       → Exactly j P' Q'
-  exactly-so to from there back =
+  exactly_so to from there back =
       record {
         passes = λ p. x.passes (from p);
         refuses = λ r q. x.refuses r (back r q);
@@ -84,19 +84,19 @@ exactly_or x y = exactly_then x (λ p. y)
 
 -- A search passes exactly if every place does, and refuses exactly for what the first place refused is refused for.
 module _ (J : ℕ → Judgement) (P : ℕ → Type 0) (Q : ℕ → Reason → Type 0) (x : (k : ℕ) → Exactly (J k) (P k) (Q k)) where
-  from-exactly :
+  from_exactly :
       (n i : ℕ)
       → Exactly (refusal_from J n i) ((k : ℕ) → i ≤ k → k < i + n → P k)
       (λ r. (p : ℕ) × (i ≤ p) × (p < i + n) × ((k : ℕ) → i ≤ k → k < p → P k) × Q p r)
   unfolding refusal_from
-  from-exactly zero i =
+  from_exactly zero i =
       record {
         passes = λ h. refl;
         refuses = λ r w. absurd (omega (arith, w.1, w.2));
         holds = inl (λ k lo hi. absurd (omega arith));
       }
-  from-exactly (suc n) i =
-      exactly-so (exactly_or (x i) (from-exactly n (suc i)))
+  from_exactly (suc n) i =
+      exactly_so (exactly_or (x i) (from_exactly n (suc i)))
       (λ h k lo hi. onward P i h.0 h.1 k lo (omega arith))
       (λ h. (h i (omega arith) (omega arith), λ k lo hi. h k (omega arith) (omega arith)))
       (λ r q.
@@ -109,10 +109,10 @@ module _ (J : ℕ → Judgement) (P : ℕ → Type 0) (Q : ℕ → Reason → Ty
       let lo = w.1 in
       inr (w.3 i (omega arith) (omega tests), (w.0, omega tests, omega (arith, w.2), (λ k l h. w.3 k (omega arith) h), w.4))))
 
-  pub exactly-first :
+  pub exactly_first :
       (n : ℕ) → Exactly (first_refusal J n) ((k : ℕ) → k < n → P k) (λ r. (p : ℕ) × (p < n) × ((k : ℕ) → k < p → P k) × Q p r)
-  exactly-first n =
-      exactly-so (from-exactly n 0)
+  exactly_first n =
+      exactly_so (from_exactly n 0)
       (λ h k b. h k (omega arith) (omega arith))
       (λ h k lo hi. h k (omega arith))
       (λ r w. (w.0, omega (arith, w.2), (λ k b. w.3 k (omega arith) b), w.4))

@@ -17,7 +17,7 @@ use Rattle.subjobs.specs.declared.Reason.TheVariants.{Lengths, TooMany, Range, P
 use Rattle.subjobs.specs.Sets.{Subjobs, size, job, subtask, release, execution, deadline, critical}
 use Rattle.subjobs.specs.Judging.{unless, one_length, range_at, ranges, pair_at, pairs, judgement}
 use Rattle.subjobs.specs.Faults.{OneLength, InRange, AllInRange, Ranged, RangedBefore, SamePair, Faulty, lengths, many, range, pair}
-use Rattle.subjobs.proofs.Exactly.{Exactly, passing, refusing, exactly-so, exactly_test, exactly_unless, exactly_or, exactly-first}
+use Rattle.subjobs.proofs.Exactly.{Exactly, passing, refusing, exactly_so, exactly_test, exactly_unless, exactly_or, exactly_first}
 pub use Rattle.subjobs.specs.Faults.{Fit}
 pub use Rattle.subjobs.proofs.Exactly.{refused_passed}
 
@@ -76,12 +76,12 @@ module _ (s : Subjobs) (p : ℕ) where
       × (((r ≡ Range p Deadline) × (Ranged s Deadline p → ⊥))
       ⊎ (Ranged s Deadline p × ((r ≡ Range p Critical) × (Ranged s Critical p → ⊥)))))))
 
-  range-exactly :
+  range_exactly :
       Exactly (range_at p (release s p) (execution s p) (deadline s p) (critical s p))
       (InRange (release s p) (execution s p) (deadline s p) (critical s p))
       FirstOut
-  range-exactly =
-      exactly-so
+  range_exactly =
+      exactly_so
       (exactly_or (at_most (release s p) 1_000_000_000 (Range p Release))
       (exactly_or (between 1 (execution s p) 1_000_000 (Range p Execution))
       (exactly_or (at_most (deadline s p) 2_000_000_000 (Range p Deadline))
@@ -137,10 +137,10 @@ module _ (s : Subjobs) where
   few_exactly = exactly_unless (leb (size s) 128) TooMany (λ e. omega tests) (λ e. omega tests) (λ a b. omega arith)
 
   pub ranges_exactly : Exactly (ranges (release s) (execution s) (deadline s) (critical s) (size s)) (AllInRange s (size s)) FirstRange
-  ranges_exactly = exactly-first _ _ _ (range-exactly s) (size s)
+  ranges_exactly = exactly_first _ _ _ (range_exactly s) (size s)
 
   pub pairs_exactly : Exactly (pairs (job s) (subtask s) (size s)) ((k : ℕ) → k < size s → New s k) FirstPair
-  pairs_exactly = exactly-first _ _ _ (pair_exactly s) (size s)
+  pairs_exactly = exactly_first _ _ _ (pair_exactly s) (size s)
 
 -- 1, and all four one after the other.
 module _ (s : Subjobs) (others : Bool) where
@@ -162,7 +162,7 @@ module _ (s : Subjobs) (others : Bool) where
   pub judged : Exactly (judgement s others) (Fit s others) (Faulty s others)
   unfolding judgement
   judged =
-      exactly-so
+      exactly_so
       (exactly_or lengths_exactly (exactly_or (few_exactly s) (exactly_or (ranges_exactly s) (pairs_exactly s))))
       (λ h. record { lengths = h.0; few = h.1.0; ranges = h.1.1.0; pairs = λ i j a b e f. h.1.1.1 j b i a (e, f) })
       (λ h. (h.lengths, (h.few, (h.ranges, λ j b i a q. h.pairs i j a b q.0 q.1))))

@@ -10,7 +10,7 @@ use native.Mathlib.Omega.{arith}
 use lib.ListN.{length, get_or}
 use Rattle.lists.specs.Places.{places, Rearranges, taken}
 use Rattle.lists.proofs.Members.{in_places, places_in}
-use Rattle.lists.proofs.Renamed.{Moved, moved_in, moved_back, moved-home, moved-agree}
+use Rattle.lists.proofs.Renamed.{Moved, moved_in, moved_back, moved_home, moved_agree}
 use Rattle.lists.proofs.Taken.{standing, rearranges_moved, rearranges_back, taken-length, taken_at}
 use Rattle.subjobs.specs.Sets as sets
 use Rattle.subjobs.specs.Sets.{Subjobs, size, rearranged}
@@ -45,7 +45,7 @@ module _ {π ρ : ℕ → ℕ} {s' s : Subjobs} (e : Alike π ρ s' s) where
       record {
         many = sym e.many;
         moved = moved_back π xs ys e.moved ρ e.back;
-        back = λ j m. (moved-home π xs ys e.moved ρ e.back m).1;
+        back = λ j m. (moved_home π xs ys e.moved ρ e.back m).1;
         job = agree (sets.job s') (sets.job s) e.job;
         subtask = agree (sets.subtask s') (sets.subtask s) e.subtask;
         release = agree (sets.release s') (sets.release s) e.release;
@@ -55,7 +55,7 @@ module _ {π ρ : ℕ → ℕ} {s' s : Subjobs} (e : Alike π ρ s' s) where
       }
     where
       agree : (f g : ℕ → ℕ) → ((i : ℕ) → Memᴰ i xs → f i ≡ g (π i)) → (j : ℕ) → Memᴰ j ys → g j ≡ f (ρ j)
-      agree = moved-agree π xs ys e.moved ρ e.back
+      agree = moved_agree π xs ys e.moved ρ e.back
 
   -- A place of the one is a place of the other.
   pub alike_inside : (i : ℕ) → i < size s' → π i < size s
@@ -84,9 +84,9 @@ module _ (ps : List ℕ) (s : Subjobs) (r : Rearranges ps (size s)) where
   rearranged-size = taken-length ps (size s) r s.jobs
 
   -- A list in the order of ps has for each sub-job what it had, by its new place and by its old one.
-  pub taken-there :
+  pub taken_there :
       (xs : List ℕ) (i : ℕ) → Memᴰ i (places (size (rearranged ps s))) → get_or (taken ps xs) i 0 ≡ get_or xs (get_or ps i 0) 0
-  taken-there xs i m =
+  taken_there xs i m =
       taken_at ps (size s) r xs i (omega (arith, places_in (size (rearranged ps s)) i m, rearranged-size))
 
   pub rearranged_alike : Alike (λ i. get_or ps i 0) (standing ps) (rearranged ps s) s
@@ -95,19 +95,19 @@ module _ (ps : List ℕ) (s : Subjobs) (r : Rearranges ps (size s)) where
         many = rearranged-size;
         moved = rw rearranged-size (rearranges_moved ps (size s) r);
         back = λ i m. rearranges_back ps (size s) r i (rw rearranged-size at m);
-        job = taken-there s.jobs;
-        subtask = taken-there s.subtasks;
-        release = taken-there s.releases;
-        execution = taken-there s.executions;
-        deadline = taken-there s.deadlines;
-        critical = taken-there s.criticals;
+        job = taken_there s.jobs;
+        subtask = taken_there s.subtasks;
+        release = taken_there s.releases;
+        execution = taken_there s.executions;
+        deadline = taken_there s.deadlines;
+        critical = taken_there s.criticals;
       }
 
   pub taken_back : (xs : List ℕ) (j : ℕ) → Memᴰ j (places (size s)) → get_or xs j 0 ≡ get_or (taken ps xs) (standing ps j) 0
   taken_back xs j m =
       let a = alike_back rearranged_alike in
       ap (λ (i : ℕ). get_or xs i 0) (sym (a.back j m))
-      ∙ sym (taken-there xs (standing ps j) (moved_in (standing ps) (places (size s)) (places (size (rearranged ps s))) a.moved m))
+      ∙ sym (taken_there xs (standing ps j) (moved_in (standing ps) (places (size s)) (places (size (rearranged ps s))) a.moved m))
 
   -- The sub-job of an old place stands at a new one.
   pub rearranged_stands : (p : ℕ) → p < size s → (standing ps p < size s) × (get_or ps (standing ps p) 0 ≡ p)

@@ -22,11 +22,11 @@ use Rattle.table.specs.Stores.{scattered, Holds, Told, set_in}
 
 -- A record, number by number.
 module _ (row l : List ℕ) (k p : ℕ) where
-  pub scattered-more :
+  pub scattered_more :
       k < length row
       → scattered l (128 * k + p) (drop k row) ≡ scattered (set l (128 * k + p) (get_or row k 0)) (128 * (k + 1) + p) (drop (k + 1) row)
   unfolding scattered
-  scattered-more h =
+  scattered_more h =
       let z : 128 * k + p + 128 ≡ 128 * suc k + p = omega arith in
       rw (add-one k)
       (ap (scattered l (128 * k + p)) (drop-cons row k 0 h)
@@ -59,32 +59,32 @@ module _ (p : ℕ) (inside : p < 128) where
       rw (next j) (before row (set l (128 * j + p) v) (suc j) k (omega arith) ∙ part_after l (128 * k) (p + 1) (128 * j + p) v (omega arith))
 
   -- and each of the others has one number more.
-  scattered-from :
+  scattered_from :
       (row l : List ℕ) (j k : ℕ)
       → k < length row
       → 128 * (j + length row) ≤ length l
       → list_at (scattered l (128 * j + p) row) 128 (j + k) (p + 1) ≡ list_at l 128 (j + k) p ++ (get_or row k 0 ∷ [])
   unfolding scattered
-  scattered-from [] l j k h r = absurd (omega arith)
-  scattered-from (v ∷ row) l j zero h r =
+  scattered_from [] l j k h r = absurd (omega arith)
+  scattered_from (v ∷ row) l j zero h r =
       let i : p < length (drop (128 * j) l) = simp length-drop (omega arith) in
       rw (next j, add-zero j, before row (set l (128 * j + p) v) (suc j) j (omega arith), drop-set-add (128 * j) l p v, add-one p)
       (take-suc-set (drop (128 * j) l) p v i)
-  scattered-from (v ∷ row) l j (suc k) h r =
+  scattered_from (v ∷ row) l j (suc k) h r =
       let m = set l (128 * j + p) v in
       let z : j + suc k ≡ suc j + k = omega arith in
       rw (next j, z)
-      (scattered-from row m (suc j) k (omega arith) (simp length-set (omega arith))
+      (scattered_from row m (suc j) k (omega arith) (simp length-set (omega arith))
       ∙ ap (λ (w : List ℕ). take p w ++ (get_or row k 0 ∷ [])) (drop-set-lt (128 * (suc j + k)) l (128 * j + p) v (omega arith)))
 
-  pub scattered-list :
+  pub scattered_list :
       (row l : List ℕ) (k : ℕ)
       → k < length row
       → 128 * length row ≤ length l
       → list_at (scattered l p row) 128 k (p + 1) ≡ list_at l 128 k p ++ (get_or row k 0 ∷ [])
-  scattered-list row l k h r =
+  scattered_list row l k h r =
       let z : 128 * 0 + p ≡ p = omega arith in
-      rw (z, zero-add k) at (scattered-from row l 0 k h (omega arith))
+      rw (z, zero-add k) at (scattered_from row l 0 k h (omega arith))
 
 one_more : (rows : Rows) (row : List ℕ) → length (rows ++ (row ∷ [])) ≡ length rows + 1
 one_more rows row = length-append rows (row ∷ [])
@@ -97,7 +97,7 @@ pub holds_more :
     → Holds l rows
     → Holds (scattered l (length rows) row) (rows ++ (row ∷ []))
 holds_more l rows row s f m h k b =
-    rw (one_more rows row, scattered-list (length rows) m row l k (omega arith) (omega arith), h k b)
+    rw (one_more rows row, scattered_list (length rows) m row l k (omega arith) (omega arith), h k b)
     (sym (map-append (λ (r : List ℕ). get_or r k 0) rows (row ∷ [])))
 
 -- Nothing is left to read.
@@ -123,23 +123,23 @@ module _ {text l : List ℕ} {at count i : ℕ} (r : Reached text at l count i) 
   reached_end h = rw (← r.rest, records_end (128 - count) r.rows text i h) (rw r.many, r.holds)
 
   module _ (h : i < length text) where
-    pub reached-many : 128 ≤ count → Told (records_from 128 [] text at) (body.Refused reason.TooMany) l
+    pub reached_many : 128 ≤ count → Told (records_from 128 [] text at) (body.Refused reason.TooMany) l
     unfolding records_from
-    reached-many m = rw (← r.rest, left_none 128 count m, lt-leb _ _ h)
+    reached_many m = rw (← r.rest, left_none 128 count m, lt-leb _ _ h)
 
     module _ (m : count < 128) where
-      pub reached-broken :
+      pub reached_broken :
           (record_at fields text i).end ≡ end.Missing → Told (records_from 128 [] text at) (body.Refused (reason.Malformed (count + 2))) l
       unfolding records_from
-      reached-broken e = rw (← r.rest, left_more 128 count m, lt-leb _ _ h, e, r.many)
+      reached_broken e = rw (← r.rest, left_more 128 count m, lt-leb _ _ h, e, r.many)
 
-      pub reached-more :
+      pub reached_more :
           (row : List ℕ) (j : ℕ)
           → record_at fields text i ≡ record { values = row; end = end.Next j }
           → length row ≡ fields
           → Reached text at (scattered l count row) (count + 1) j
       unfolding records_from
-      reached-more row j e f =
+      reached_more row j e f =
           record {
             rows = r.rows ++ (row ∷ []);
             many = one_more r.rows row ∙ rw r.many;

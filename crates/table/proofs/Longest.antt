@@ -22,7 +22,7 @@ use Rattle.table.specs.Reading.{read, set_of}
 use Rattle.table.specs.Writing.{printed_line, refusal}
 use Rattle.table.specs.Answers.{line_at, joined, accepted, verdict_of, tabled, on_parsed, answer, Tables, Counts}
 use Rattle.table.proofs.Printing.{numbers, line_of_lem, refusal_is}
-use Rattle.table.proofs.Outcomes.{Sound, in_time, accepted-sound}
+use Rattle.table.proofs.Outcomes.{Sound, in_time, accepted_sound}
 use Rattle.table.proofs.Exactly.{Within, read_within}
 
 refusal-length : (r : Reason) → length (refusal r) ≤ 31
@@ -52,7 +52,7 @@ tabled-length s m = by (verdict_of (olda.answer s (size s))) refl
     by : (j : Judgement) → verdict_of (olda.answer s (size s)) ≡ j → length (if_passed j (accepted s (olda.results s (replicate (size s) 0))) refusal) ≤ 7_203
     by (judgement.Refused r) e = omega (arith, refusal-length r)
     by judgement.Passed e =
-        omega (arith, accepted-length s (olda.results s (replicate (size s) 0)) (accepted-sound s (replicate (size s) 0) (length-replicate {A = ℕ} (size s) 0) e))
+        omega (arith, accepted-length s (olda.results s (replicate (size s) 0)) (accepted_sound s (replicate (size s) 0) (length-replicate {A = ℕ} (size s) 0) e))
 
 -- No answer is longer than 7,203 bytes.
 pub answer-length : (text : List ℕ) → length (answer text) ≤ 7_203

@@ -29,7 +29,7 @@ use Rattle.olda.proofs.Results.{refused_within}
 use Rattle.ticks.specs.Runs as ticks
 use Rattle.edf.specs.Answers as edf
 use Rattle.ticks.proofs.Ticks as run
-use Rattle.edf.proofs.Fresh.{fresh-finishes}
+use Rattle.edf.proofs.Fresh.{fresh_finishes}
 use Rattle.table.specs.Writing.{out_header, refusal}
 use Rattle.table.specs.Answers.{line_at, joined, accepted, verdict_of, tabled}
 use Rattle.table.specs.Stores.{set_in, PrintableAt, Roomy}
@@ -58,35 +58,35 @@ module _ (s : Subjobs) (ds : List ℕ) (w : Sound s ds) where
   in_time = placed_six.1
 
   -- A run of it, from totals of nothing, is never refused.
-  pub run-finishes :
+  pub run_finishes :
       (fs : List ℕ)
       → length fs ≡ size s
       → edf.finishes s ds s.executions fs (record { busy = 0; idle = 0 }) ≡ (ticks.run s ds s.executions).finishes
-  run-finishes fs l = fresh-finishes s ds s.executions w.passed fs sound_length fits.lengths.executions l
+  run_finishes fs l = fresh_finishes s ds s.executions w.passed fs sound_length fits.lengths.executions l
 
   pub run_length : length (ticks.run s ds s.executions).finishes ≡ size s
   run_length = run.run_length s ds s.executions
 
 -- What the assignment accepts is sound.
 module _ (s : Subjobs) (out : List ℕ) where
-  sound-by :
+  sound_by :
       (j : Judgement) (w : Outcome)
       → judged s true ≡ j
       → method s ≡ w
       → verdict_of (if_passed j (olda.outcome s w) olda-answer.Refused) ≡ judgement.Passed
       → Sound s (if_passed j (olda.written w out) (λ r. out))
-  sound-by (judgement.Refused r) w p m e = refused_passed r e
-  sound-by judgement.Passed (stuck q k) p m e = refused_passed _ e
-  sound-by judgement.Passed (placed ds) p m e = record { passed = p; is = m }
+  sound_by (judgement.Refused r) w p m e = refused_passed r e
+  sound_by judgement.Passed (stuck q k) p m e = refused_passed _ e
+  sound_by judgement.Passed (placed ds) p m e = record { passed = p; is = m }
 
-  pub accepted-sound :
+  pub accepted_sound :
       length out ≡ size s
       → verdict_of (olda.answer s (size s)) ≡ judgement.Passed
       → Sound s (olda.results s out)
   unfolding olda.answer olda.results
-  accepted-sound l e =
+  accepted_sound l e =
       rw (eq-eqb (length out) (size s) l)
-      (sound-by (judged s true) (method s) refl refl (rw (eq-eqb (size s) (size s) refl) at e))
+      (sound_by (judged s true) (method s) refl refl (rw (eq-eqb (size s) (size s) refl) at e))
 
 -- Whatever the list held before.
 pub accepted_same :
@@ -96,7 +96,7 @@ pub accepted_same :
     → verdict_of (olda.answer s (size s)) ≡ judgement.Passed
     → olda.results s out ≡ olda.results s old
 accepted_same s out old l k e =
-    placed_same (sym (accepted-sound s out l e).is ∙ (accepted-sound s old k e).is)
+    placed_same (sym (accepted_sound s out l e).is ∙ (accepted_sound s old k e).is)
   where
     placed_same : {a b : List ℕ} → placed a ≡ placed b → a ≡ b
     placed_same q = cc
@@ -130,11 +130,11 @@ module _ {l ds fs : List ℕ} {n : ℕ} (r : Roomy l n ds fs) where
 
   module _ (q : Reason) (e : verdict_of (olda.answer (set_in l n) (length ds)) ≡ judgement.Refused q) where
     -- A refusal names a place of the set.
-    pub refused-place : place_of q ≤ 129
-    refused-place = omega (arith, refused_within (set_in l n) (length ds) q (verdict_refused (olda.answer (set_in l n) (length ds)) q e))
+    pub refused_place : place_of q ≤ 129
+    refused_place = omega (arith, refused_within (set_in l n) (length ds) q (verdict_refused (olda.answer (set_in l n) (length ds)) q e))
 
-    pub refused-text : tabled (set_in l n) ≡ refusal q
-    refused-text = tabled_refused (set_in l n) q (told (judgement.Refused q) e)
+    pub refused_text : tabled (set_in l n) ≡ refusal q
+    refused_text = tabled_refused (set_in l n) q (told (judgement.Refused q) e)
 
   module _ (e : verdict_of (olda.answer (set_in l n) (length ds)) ≡ judgement.Passed) where
     abbrev Given : List ℕ
@@ -144,13 +144,13 @@ module _ {l ds fs : List ℕ} {n : ℕ} (r : Roomy l n ds fs) where
     Finished = edf.finishes (set_in l n) Given (set_in l n).executions fs (record { busy = 0; idle = 0 })
 
     sound : Sound (set_in l n) Given
-    sound = accepted-sound (set_in l n) ds local_size (told judgement.Passed e)
+    sound = accepted_sound (set_in l n) ds local_size (told judgement.Passed e)
 
     finished : Finished ≡ (ticks.run (set_in l n) Given (set_in l n).executions).finishes
-    finished = run-finishes (set_in l n) Given sound fs (r.finishes ∙ sym size_in)
+    finished = run_finishes (set_in l n) Given sound fs (r.finishes ∙ sym size_in)
 
-    pub accepted-printable : (i : ℕ) → i < n → PrintableAt l Given Finished i
-    accepted-printable i h =
+    pub accepted_printable : (i : ℕ) → i < n → PrintableAt l Given Finished i
+    accepted_printable i h =
         let z = size_in in
         record {
           room = omega (arith, r.lists.few, r.lists.room);
@@ -159,9 +159,9 @@ module _ {l ds fs : List ℕ} {n : ℕ} (r : Roomy l n ds fs) where
           in_time = in_time_at l Given n i h (in_time (set_in l n) Given sound i (omega arith));
         }
 
-    pub accepted-text : tabled (set_in l n) ≡ out_header ++ joined (line_at (set_in l n) Given Finished) (places n)
+    pub accepted_text : tabled (set_in l n) ≡ out_header ++ joined (line_at (set_in l n) Given Finished) (places n)
     unfolding accepted
-    accepted-text =
+    accepted_text =
         let s = set_in l n in
         let p = told judgement.Passed e in
         rw (tabled-accepted s p, accepted_same s (replicate (size s) 0) ds (length-replicate {A = ℕ} (size s) 0) local_size p, finished)

@@ -130,9 +130,9 @@ module _ (text : List ℕ) (i : ℕ) where
       inl (ds, value_from 0 ds, n, q.2 ∙ ap (λ (l : List ℕ). ds ++ l) (sym (at_next text i ds q.1 q.2)), rw (q.4, zero-add (length ds), t)))
       (λ t. inr (rw (q.4, zero-add (length ds), t)))
 
-  followed-read :
+  followed_read :
       (b v : ℕ) (w s : List ℕ) → At text i (w ++ (b ∷ s)) → followed text b (cell.Number v (i + length w)) ≡ cell.Number v (i + length w + 1)
-  followed-read b v w s e = rw (eq-eqb _ _ (at_byte text (i + length w) b s (at_next text i w (b ∷ s) e)))
+  followed_read b v w s e = rw (eq-eqb _ _ (at_byte text (i + length w) b s (at_next text i w (b ∷ s) e)))
 
   followed_cases : (P : List ℕ → ℕ → Type 0) (b : ℕ) → 0 < b → (c : Cell) → Found P text i c → Found (Behind b P) text i (followed text b c)
   followed_cases P b h c (inr e) = inr (rw e)
@@ -155,24 +155,24 @@ module _ (text : List ℕ) (i : ℕ) where
       rw (ne_eqb (byte_at text i) 34 (λ q. omega (arith, b, h))) (number_read text i s stop (d ∷ ds) v n e)
   field_read s stop (quoted {ds} {v} n) e =
       let f : At text (i + 1) (ds ++ (34 ∷ s)) = at_one text i 34 (ds ++ (34 ∷ []) ++ s) e ∙ append_assoc ds (34 ∷ []) s in
-      rw (eq-eqb (byte_at text i) 34 (at_byte text i 34 (ds ++ (34 ∷ []) ++ s) e), number_read text (i + 1) (34 ∷ s) (stops_at 34 s refl) ds v n f, followed-read text (i + 1) 34 v ds s f)
+      rw (eq-eqb (byte_at text i) 34 (at_byte text i 34 (ds ++ (34 ∷ []) ++ s) e), number_read text (i + 1) (34 ∷ s) (stops_at 34 s refl) ds v n f, followed_read text (i + 1) 34 v ds s f)
       (ap (λ (k : ℕ). cell.Number v k) (omega (arith, length-append ds (34 ∷ []))))
 
   field_cases : Found Field text i (field_at text i)
   unfolding field_at
   field_cases =
       test (eqb (byte_at text i) 34)
-      (λ t. rw t (in-quotes (eqb-true _ _ t) (followed_cases text (i + 1) Number 34 (omega arith) (number_at text (i + 1)) (number_cases text (i + 1)))))
-      (λ t. rw t (as-bare (number_cases text i)))
+      (λ t. rw t (in_quotes (eqb-true _ _ t) (followed_cases text (i + 1) Number 34 (omega arith) (number_at text (i + 1)) (number_cases text (i + 1)))))
+      (λ t. rw t (as_bare (number_cases text i)))
     where
-      as-bare : Found Number text i (number_at text i) → Found Field text i (number_at text i)
-      as-bare (inl (w, v, n, e, q)) = inl (w, v, bare n, e, q)
-      as-bare (inr e) = inr e
+      as_bare : Found Number text i (number_at text i) → Found Field text i (number_at text i)
+      as_bare (inl (w, v, n, e, q)) = inl (w, v, bare n, e, q)
+      as_bare (inr e) = inr e
 
-      in-quotes :
+      in_quotes :
           {c : Cell} → byte_at text i ≡ 34 → Found (Behind 34 Number) text (i + 1) c → Found Field text i c
-      in-quotes t (inr e) = inr e
-      in-quotes t (inl (w, v, (ds, n, z), e, q)) =
+      in_quotes t (inr e) = inr e
+      in_quotes t (inl (w, v, (ds, n, z), e, q)) =
           let k : i + 1 + length w ≡ i + suc (length w) = omega arith in
           inl (34 ∷ w, v, rw z (quoted n), byte_at_lem text i 34 (omega arith) t ∙ rw (e, k), rw (q, k))
 
@@ -184,7 +184,7 @@ module _ (text : List ℕ) (i : ℕ) where
   parted_read : (n : ℕ) → 0 < n → (s : List ℕ) {w : List ℕ} {v : ℕ} → Field w v → At text i (w ++ (44 ∷ s)) → cell_at n text i ≡ cell.Number v (i + length w + 1)
   unfolding cell_at
   parted_read n h s {w} {v} f e =
-      rw (ne_eqb n 0 (λ q. omega arith), field_read (44 ∷ s) (stops_at 44 s refl) f e, followed-read text i 44 v w s e)
+      rw (ne_eqb n 0 (λ q. omega arith), field_read (44 ∷ s) (stops_at 44 s refl) f e, followed_read text i 44 v w s e)
 
   last_cases : Found Field text i (cell_at 0 text i)
   unfolding cell_at

@@ -47,9 +47,9 @@ module _ (text : List ℕ) (v n i : ℕ) where
   digits_end h = rw (drop_of_length-le text h)
 
   module _ (h : i < length text) where
-    pub digits-stop : (ltb (get_or text i 0) 48 || ltb 57 (get_or text i 0)) ≡ true → digits v n i (drop i text) ≡ record { value = v; count = n; end = i }
+    pub digits_stop : (ltb (get_or text i 0) 48 || ltb 57 (get_or text i 0)) ≡ true → digits v n i (drop i text) ≡ record { value = v; count = n; end = i }
     unfolding digits
-    digits-stop e = rw (drop-cons text i 0 h, e)
+    digits_stop e = rw (drop-cons text i 0 h, e)
 
     pub digits_more :
         (ltb (get_or text i 0) 48 || ltb 57 (get_or text i 0)) ≡ false
@@ -63,14 +63,14 @@ module _ (word text : List ℕ) (i : ℕ) where
   starts_done h = rw (drop_of_length-le word h)
 
   module _ (h : i < length word) where
-    pub starts-short : length text ≤ i → starts (drop i word) (drop i text) ≡ false
+    pub starts_short : length text ≤ i → starts (drop i word) (drop i text) ≡ false
     unfolding starts
-    starts-short g = rw (drop-cons word i 0 h, drop_of_length-le text g)
+    starts_short g = rw (drop-cons word i 0 h, drop_of_length-le text g)
 
     module _ (g : i < length text) where
-      pub starts-not : eqb (get_or text i 0) (get_or word i 0) ≡ false → starts (drop i word) (drop i text) ≡ false
+      pub starts_not : eqb (get_or text i 0) (get_or word i 0) ≡ false → starts (drop i word) (drop i text) ≡ false
       unfolding starts
-      starts-not e = rw (drop-cons word i 0 h, drop-cons text i 0 g, e)
+      starts_not e = rw (drop-cons word i 0 h, drop-cons text i 0 g, e)
 
       pub starts_more :
           eqb (get_or text i 0) (get_or word i 0) ≡ true
@@ -108,9 +108,9 @@ module _ {text out₀ out : List ℕ} {at i k : ℕ} (f : Filled text at out₀ 
     left : length out - k ≡ suc (length out - k - 1)
     left = omega arith
 
-    pub filled-broken : cell_at (length out - k - 1) text i ≡ cell.Malformed → Recorded text at out₀ end.Missing out
+    pub filled_broken : cell_at (length out - k - 1) text i ≡ cell.Malformed → Recorded text at out₀ end.Missing out
     unfolding record_at
-    filled-broken e = filled_end end.Missing (rw (left, e))
+    filled_broken e = filled_end end.Missing (rw (left, e))
 
     pub filled_more :
         (v j : ℕ) → cell_at (length out - k - 1) text i ≡ cell.Number v j → Filled text at out₀ (set out k v) j (k + 1)

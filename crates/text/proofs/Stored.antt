@@ -63,13 +63,13 @@ module _ {l m : List ℕ} {at i : ℕ} (p x : ℕ) (some : 0 < p) where
   unfolding figures
   digit_last h w = let e : p ≡ suc (p - 1) = omega arith in rw (e, lt-ltb _ _ h) w
 
-  pub digit-more :
+  pub digit_more :
       {n : List ℕ} {j : ℕ}
       → 10 ≤ x
       → Wrote l at (figures (p - 1) (x / 10)) m i
       → Wrote m i ((48 + x % 10) ∷ []) n j
       → Wrote l at (figures p x) n j
-  digit-more h v w =
+  digit_more h v w =
       let e : p ≡ suc (p - 1) = omega arith in
       rw (ap (λ k. figures k x) e ∙ tenth (p - 1) x h) (then v w)
 

@@ -13,7 +13,7 @@ use native.Mathlib.Omega.{arith}
 use Rattle.lists.proofs.Cases.{split}
 use Rattle.lists.proofs.Choice.{Order, Total}
 use Rattle.ticks.specs.Core.{Load, served, turn}
-use Rattle.ticks.proofs.Service.{On, Counters, served-start, turn_cases, served_is_active, served-first, idle_none, tick-cases}
+use Rattle.ticks.proofs.Service.{On, Counters, served-start, turn_cases, served_is_active, served_first, idle_none, tick_cases}
 
 -- An active one is served if no active one comes before it.
 turn_is :
@@ -28,7 +28,7 @@ turn_is L ord tot t {b} m h k f =
     (λ e. absurd (omega (arith, idle_none L t e m h)))
     (λ w.
     let a = served_is_active L t w.1 in
-    let q : w.0 ≡ b = tot w.0 b a.0 m (f w.0 a.0 a.1 a.2) (served-first L ord t w.1 m h k) in
+    let q : w.0 ≡ b = tot w.0 b a.0 m (f w.0 a.0 a.1 a.2) (served_first L ord t w.1 m h k) in
     w.1 ∙ ap some q)
 
 pub record Stands (M L : Load) (π : ℕ → ℕ) : Type 0 where
@@ -56,18 +56,18 @@ module _
     (tot : Total L.before L.on)
     (free : Free M L π) where
   module _ (t : ℕ) (ih : (i : ℕ) → On M i → served M t i ≡ served L t (π i)) where
-    turn-to : (b : ℕ) → On M b → turn L t ≡ some (π b) → turn M t ≡ some b
-    turn-to b m e =
+    turn_to : (b : ℕ) → On M b → turn L t ≡ some (π b) → turn M t ≡ some b
+    turn_to b m e =
         let a = served_is_active L t e in
         turn_is M ordM
         (λ i j p q x y. S.apart i j p q (tot (π i) (π j) (S.there i p) (S.there j q) (sym (S.before i j p q) ∙ x) (sym (S.before j i q p) ∙ y)))
         t m (omega (arith, a.1, S.release b m)) (omega (arith, a.2, ih b m, S.owed b m))
         (λ i n h k.
         S.before i b n m
-        ∙ served-first L ordL t e (S.there i n) (omega (arith, S.release i n)) (omega (arith, ih i n, S.owed i n)))
+        ∙ served_first L ordL t e (S.there i n) (omega (arith, S.release i n)) (omega (arith, ih i n, S.owed i n)))
 
-    turn-back : (b : ℕ) → turn M t ≡ some b → turn L t ≡ some (π b)
-    turn-back b e =
+    turn_back : (b : ℕ) → turn M t ≡ some b → turn L t ≡ some (π b)
+    turn_back b e =
         let a = served_is_active M t e in
         let m = a.0 in
         let h : L.release (π b) ≤ t = omega (arith, a.1, S.release b m) in
@@ -78,7 +78,7 @@ module _
         split (free t w.0 w.1)
         (λ q.
         let g : turn L t ≡ some (π q.0) = w.1 ∙ ap some (sym q.2) in
-        let f = turn-to q.0 q.1 g in
+        let f = turn_to q.0 q.1 g in
         let z : q.0 ≡ b = cc in
         g ∙ ap (λ (i : ℕ). some (π i)) z)
         (λ n. absurd (omega (arith, n b m h))))
@@ -88,14 +88,14 @@ module _
   served_stands (suc t) i m =
       let ih = served_stands t in
       let e = ih i m in
-      split (tick-cases M N t i)
+      split (tick_cases M N t i)
       (λ p.
-      split (tick-cases L K t (π i))
+      split (tick_cases L K t (π i))
       (λ q. omega arith)
-      (λ q. absurd (q.0 (turn-back t ih i p.0))))
+      (λ q. absurd (q.0 (turn_back t ih i p.0))))
       (λ p.
-      split (tick-cases L K t (π i))
-      (λ q. absurd (p.0 (turn-to t ih i m q.0)))
+      split (tick_cases L K t (π i))
+      (λ q. absurd (p.0 (turn_to t ih i m q.0)))
       (λ q. omega arith))
 
 -- Under their own names: some of the sub-jobs, ys, on a core of their own that owes them the same.

@@ -12,7 +12,7 @@ use Rattle.subjobs.specs.Terms.{Terms}
 use Rattle.subjobs.specs.Conditions.{Seven}
 use Rattle.ticks.specs.Core.{Load, served}
 use Rattle.ticks.specs.Runs.{finish, load_of}
-use Rattle.ticks.proofs.Service.{Counters, served-start, turn_cases, served_is_active, group-tick, group-other}
+use Rattle.ticks.proofs.Service.{Counters, served-start, turn_cases, served_is_active, group_tick, group_other}
 use Rattle.ticks.proofs.Finishes.{finish_by}
 
 -- A subset is served one tick a tick, from its smallest release on.
@@ -23,7 +23,7 @@ served_since L K U (suc t) =
     let ys = filter U L.on in
     let ih = served_since L K U t in
     split (turn_cases L t)
-    (λ e. omega (arith, group-other L K ys t (λ b q m. let z : ◌≡◌ {A = ℕ} 0 1 = cc in omega arith)))
+    (λ e. omega (arith, group_other L K ys t (λ b q m. let z : ◌≡◌ {A = ℕ} 0 1 = cc in omega arith)))
     (λ w.
     let a = served_is_active L t w.1 in
     test (U w.0)
@@ -33,12 +33,12 @@ served_since L K U (suc t) =
       arith,
       a.1,
       least_le L.release ys m,
-      group-tick L K ys (nodup_filter U L.on K.once) t w.0 w.1 m,
+      group_tick L K ys (nodup_filter U L.on K.once) t w.0 w.1 m,
     ))
     (λ n.
     omega (
       arith,
-      group-other L K ys t (λ b q m. let e = w.1 in let z : b ≡ w.0 = cc in clash (rw (← z) (filter_in U L.on m).1) n),
+      group_other L K ys t (λ b q m. let e = w.1 in let z : b ≡ w.0 = cc in clash (rw (← z) (filter_in U L.on m).1) n),
     )))
 
 -- With every finish by its deadline, all of a subset is served at its greatest deadline.

@@ -13,9 +13,9 @@ use Rattle.lists.proofs.Cases.{split, test, tests}
 use Rattle.lists.proofs.Members.{in_filter, filter_in}
 use Rattle.lists.proofs.Sums.{greatest_ge, greatest_le}
 use Rattle.ticks.specs.Core.{Load, served, ended, turn}
-use Rattle.ticks.specs.Runs.{horizon, finish, end, busyTicks, idleTicks}
-use Rattle.ticks.proofs.Service.{On, Counters, served-start, ended-start, tick-cases}
-use Rattle.ticks.proofs.Counted.{Done, busy-idle, busy-done, done-horizon}
+use Rattle.ticks.specs.Runs.{horizon, finish, end, busy_ticks, idle_ticks}
+use Rattle.ticks.proofs.Service.{On, Counters, served-start, ended-start, tick_cases}
+use Rattle.ticks.proofs.Counted.{Done, busy-idle, busy_done, done_horizon}
 
 -- The finish of one that is owed nothing, and of one that is owed something.
 pub finish_nothing : (L : Load) (i : ℕ) → L.owed i ≡ 0 → finish L i ≡ L.release i
@@ -29,7 +29,7 @@ finish-owed L i h = rw (ne_eqb (L.owed i) 0 (λ e. omega arith))
 module _ (L : Load) (K : Counters L) where
   pub ended_most : (t i : ℕ) → ended L t i ≤ t
   ended_most zero i = omega (arith, ended-start L i)
-  ended_most (suc t) i = split (tick-cases L K t i) (λ q. omega arith) (λ q. omega (arith, ended_most t i))
+  ended_most (suc t) i = split (tick_cases L K t i) (λ q. omega arith) (λ q. omega (arith, ended_most t i))
 
   -- After the last tick served nothing is served.
   pub still : (t i k : ℕ) → ended L (t + k) i ≤ t → served L (t + k) i ≡ served L t i
@@ -37,7 +37,7 @@ module _ (L : Load) (K : Counters L) where
   still t i (suc k) h =
       let n = ap (λ (m : ℕ). served L m i) (add-suc t k) in
       let f = ap (λ (m : ℕ). ended L m i) (add-suc t k) in
-      split (tick-cases L K (t + k) i)
+      split (tick_cases L K (t + k) i)
       (λ q. absurd (omega arith))
       (λ q. omega (arith, still t i k (omega arith)))
 
@@ -45,7 +45,7 @@ module _ (L : Load) (K : Counters L) where
   pub last_tick : (t i : ℕ) → (served L t i ≡ 0) ⊎ ((u : ℕ) × ((suc u ≡ ended L t i) × (turn L u ≡ some i)))
   last_tick zero i = inl (served-start L i)
   last_tick (suc t) i =
-      split (tick-cases L K t i)
+      split (tick_cases L K t i)
       (λ q. inr (t, (sym q.2, q.0)))
       (λ q. split (last_tick t i) (λ z. inl (q.1 ∙ z)) (λ w. inr (w.0, (w.1.0 ∙ sym q.2, w.1.1))))
 
@@ -70,7 +70,7 @@ module _ (L : Load) (K : Counters L) where
       let w : H ≡ t + (H - t) = omega arith in
       omega (
         arith,
-        done-horizon L K i m,
+        done_horizon L K i m,
         ap (λ (u : ℕ). served L u i) w,
         still t i (H - t) (omega (arith, ap (λ (u : ℕ). ended L u i) w, finish-owed L i h)),
       )
@@ -82,10 +82,10 @@ module _ (L : Load) (K : Counters L) where
       (λ z. let h : 0 < L.owed i = omega tests in done_finish (end L) i m h (finish-end i m h) end-horizon)
 
   -- Busy is the sum of what is owed, and busy and idle ticks are all ticks before the end.
-  pub busy_owed : busyTicks L ≡ weight L.owed L.on
-  unfolding busyTicks
-  busy_owed = busy-done L K (end L) done_end
+  pub busy_owed : busy_ticks L ≡ weight L.owed L.on
+  unfolding busy_ticks
+  busy_owed = busy_done L K (end L) done_end
 
-pub all_ticks : (L : Load) → busyTicks L + idleTicks L ≡ end L
-unfolding busyTicks idleTicks
+pub all_ticks : (L : Load) → busy_ticks L + idle_ticks L ≡ end L
+unfolding busy_ticks idle_ticks
 all_ticks L = busy-idle L (end L)

@@ -12,7 +12,7 @@ use Rattle.lists.proofs.Cases.{split, test, tests}
 use Rattle.ticks.specs.Core.{Load, served, turn}
 use Rattle.ticks.specs.Runs.{horizon, finish}
 use Rattle.ticks.proofs.Service.{On, Counters, served_is_active}
-use Rattle.ticks.proofs.Counted.{done-horizon}
+use Rattle.ticks.proofs.Counted.{done_horizon}
 use Rattle.ticks.proofs.Ends.{ended_most, last_tick, finish_nothing, finish-owed, done_finish}
 use Rattle.ticks.proofs.Groups.{done_later}
 
@@ -33,7 +33,7 @@ module _ (L : Load) (K : Counters L) (i : ℕ) (m : On L i) (due : 0 < L.owed i)
   pub finish_last : LastTick L i (finish L i)
   finish_last =
       split (last_tick L K (horizon L) i)
-      (λ z. absurd (omega (arith, done-horizon L K i m)))
+      (λ z. absurd (omega (arith, done_horizon L K i m)))
       (λ w.
       record {
         tick = w.0;

@@ -59,10 +59,10 @@ outside a t u h w = split w (λ l. same_leb a u a t (omega arith) (omega arith))
 
 module _ (L : Load) where
   -- Nobody is picked if all are released later or have all that they are owed.
-  pub nobody-picked :
+  pub nobody_picked :
       (t : ℕ) (v : List ℕ) → ((i : ℕ) → On L i → (t < L.release i) ⊎ (L.owed i ≤ get_or v i 0)) → pick L t v ≡ none
   unfolding choose
-  nobody-picked t v h =
+  nobody_picked t v h =
       rw
       (filter_none (active L t v) L.on
       (λ i m.
@@ -70,7 +70,7 @@ module _ (L : Load) where
       (λ l. rw (le-ltb (get_or v i 0) (L.owed i) l) (and-false (leb (L.release i) t)))))
 
   -- The pick stays while it is owed something and nobody is released.
-  pick-stays :
+  pick_stays :
       (t u p a : ℕ) (v : List ℕ)
       → p < length v
       → t ≤ u
@@ -78,7 +78,7 @@ module _ (L : Load) where
       → get_or v p 0 < L.owed p
       → a < L.owed p
       → pick L u (set v p a) ≡ pick L t v
-  pick-stays t u p a v l h quiet owed more =
+  pick_stays t u p a v l h quiet owed more =
       ap (choose L.before)
       (filter_same (active L u (set v p a)) (active L t v) L.on
       (λ i m. rw (outside (L.release i) t u h (quiet i m), left i)))
@@ -104,7 +104,7 @@ module _ (L : Load) where
       wait e =
           idles
           (λ m h.
-          nobody-picked (t + m) c.served
+          nobody_picked (t + m) c.served
           (λ i w. split (quiet i w) (λ a. inr (pick-none L t c.served e w a)) (λ a. inl (omega arith))))
 
       pub jump :
@@ -115,7 +115,7 @@ module _ (L : Load) where
       jump p l e room (suc zero) z h = rw (add-zero t, e) (simp add-one)
       jump p l e room (suc (suc m)) z h =
           let stays =
-          pick-stays t (t + suc m) p (get_or c.served p 0 + suc m) c.served l (omega arith)
+          pick_stays t (t + suc m) p (get_or c.served p 0 + suc m) c.served l (omega arith)
           (λ i w. split (quiet i w) (λ a. inl a) (λ a. inr (omega arith)))
           (omega arith) (omega arith)
           in

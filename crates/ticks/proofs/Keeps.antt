@@ -21,7 +21,7 @@ use Rattle.ticks.specs.Runs.{served_before, due, load_of, load, run}
 use Rattle.ticks.proofs.Service.{Counters, counters}
 use Rattle.ticks.proofs.Ends.{finish_nothing}
 use Rattle.ticks.proofs.Finishes.{finish_by}
-use Rattle.ticks.proofs.Groups.{since, group-done, leads_tended}
+use Rattle.ticks.proofs.Groups.{since, group_done, leads_tended}
 use Rattle.ticks.proofs.Sooner.{sooner_order, sooner_by}
 use Rattle.ticks.proofs.Ticks.{finish_at}
 
@@ -55,7 +55,7 @@ module _ (T : Terms) (o d : ℕ → ℕ) (lt : ℕ → ℕ → Bool) (xs : List 
       → (i : ℕ) → Memᴰ i xs → served (load_of T o lt xs) (d i) i ≡ o i
   keeps ord by-d K most seven i m =
       let L = load_of T o lt xs in
-      group-done L (λ j. leb (d j) (d i)) K (d i)
+      group_done L (λ j. leb (d j) (d i)) K (d i)
       (λ t b. leads_tended L (λ j. leb (d j) (d i)) ord t (λ j k mj mk u n a. by-d j k (omega tests)))
       (room_of most seven (d i)) i m (le-leb (d i) (d i) (omega arith))
 

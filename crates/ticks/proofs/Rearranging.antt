@@ -14,7 +14,7 @@ use Rattle.lists.proofs.Renamed.{moved_in}
 use Rattle.lists.proofs.Taken.{standing, taken-length}
 use Rattle.subjobs.specs.Sets.{Subjobs, size, rearranged, job, subtask}
 use Rattle.subjobs.specs.Faults.{Fit}
-use Rattle.subjobs.proofs.Rearranging.{alike_inside, rearranged-size, taken-there, rearranged_alike}
+use Rattle.subjobs.proofs.Rearranging.{alike_inside, rearranged-size, taken_there, rearranged_alike}
 use Rattle.ticks.specs.Core.{Load}
 use Rattle.ticks.specs.Runs.{Run, load, run_of, run}
 use Rattle.ticks.proofs.Service.{Counters, counters}
@@ -52,11 +52,11 @@ module _
           there = λ i m. moved_in π (places (size s')) (places (size s)) e.moved m;
           apart = λ i j p q h. sym (e.back i p) ∙ ap (standing ps) h ∙ e.back j q;
           release = e.release;
-          owed = λ i m. rw (taken-there ps s r asks i m, e.execution i m);
+          owed = λ i m. rw (taken_there ps s r asks i m, e.execution i m);
           before = λ i j m k.
               rw (
-                taken-there ps s r ds i m,
-                taken-there ps s r ds j k,
+                taken_there ps s r ds i m,
+                taken_there ps s r ds j k,
                 e.job i m,
                 e.job j k,
                 e.subtask i m,
@@ -95,7 +95,7 @@ module _
       finish_at s' (taken ps ds) (taken ps asks) i k
       ∙ finish_renamed M L π moved_core N K order_m order_l total i (in_places (size s') i k)
       ∙ sym (finish_at s ds asks (π i) (alike_inside (rearranged_alike ps s r) i k))
-      ∙ sym (taken-there ps s r b i (in_places (size s') i k)))
+      ∙ sym (taken_there ps s r b i (in_places (size s') i k)))
 
   pub run_moved : run s' (taken ps ds) (taken ps asks) ≡ moved_run ps (run s ds asks)
   unfolding run_of

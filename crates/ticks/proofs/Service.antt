@@ -96,47 +96,47 @@ module _ (L : Load) where
 
   -- Who is picked is active, and comes first among the active; if nobody is picked, nobody is active.
   module _ (t : ℕ) (v : List ℕ) where
-    pub pick-active : {b : ℕ} → pick L t v ≡ some b → On L b × (L.release b ≤ t) × (get_or v b 0 < L.owed b)
-    pick-active {b} e =
+    pub pick_active : {b : ℕ} → pick L t v ≡ some b → On L b × (L.release b ≤ t) × (get_or v b 0 < L.owed b)
+    pick_active {b} e =
         let f = filter_in (active L t v) L.on (chosen_in L.before _ e) in
         let g = both {a = leb (L.release b) t} {b = ltb (get_or v b 0) (L.owed b)} f.1 in
         let h = g.0 in
         let k = g.1 in
         (f.0, omega tests, omega tests)
 
-    is-active : {i : ℕ} → On L i → L.release i ≤ t → get_or v i 0 < L.owed i → Memᴰ i (filter (active L t v) L.on)
-    is-active m h k = in_filter (active L t v) L.on m (rw (le-leb _ _ h, lt-ltb _ _ k))
+    is_active : {i : ℕ} → On L i → L.release i ≤ t → get_or v i 0 < L.owed i → Memᴰ i (filter (active L t v) L.on)
+    is_active m h k = in_filter (active L t v) L.on m (rw (le-leb _ _ h, lt-ltb _ _ k))
 
     pub pick_first :
         Order L.before → {b i : ℕ} → pick L t v ≡ some b → On L i → L.release i ≤ t → get_or v i 0 < L.owed i
         → L.before i b ≡ false
-    pick_first ord e m h k = chosen_first L.before ord _ e (is-active m h k)
+    pick_first ord e m h k = chosen_first L.before ord _ e (is_active m h k)
 
     pub pick-none : {i : ℕ} → pick L t v ≡ none → On L i → L.release i ≤ t → L.owed i ≤ get_or v i 0
     pick-none {i} e m h =
         test (ltb (get_or v i 0) (L.owed i))
-        (λ k. in_nil (rw (chosen_none L.before _ e) at (is-active m h (omega tests))))
+        (λ k. in_nil (rw (chosen_none L.before _ e) at (is_active m h (omega tests))))
         (λ k. omega tests)
 
   -- The same of the one who is served in tick t.
   pub served_is_active : (t : ℕ) {b : ℕ} → turn L t ≡ some b → On L b × (L.release b ≤ t) × (served L t b < L.owed b)
-  served_is_active t e = pick-active t (after L t).served e
+  served_is_active t e = pick_active t (after L t).served e
 
-  pub served-first :
+  pub served_first :
       Order L.before → (t : ℕ) {b i : ℕ} → turn L t ≡ some b → On L i → L.release i ≤ t → served L t i < L.owed i
       → L.before i b ≡ false
-  served-first ord t e m h k = pick_first t (after L t).served ord e m h k
+  served_first ord t e m h k = pick_first t (after L t).served ord e m h k
 
   pub idle_none : (t : ℕ) {i : ℕ} → turn L t ≡ none → On L i → L.release i ≤ t → L.owed i ≤ served L t i
   idle_none t e m h = pick-none t (after L t).served e m h
 
   module _ (K : Counters L) where
     -- A tick adds one to what it serves and ends there; of the others it changes nothing.
-    pub tick-cases :
+    pub tick_cases :
         (t i : ℕ)
         → ((turn L t ≡ some i) × (served L (suc t) i ≡ suc (served L t i)) × (ended L (suc t) i ≡ suc t))
         ⊎ ((turn L t ≢ some i) × (served L (suc t) i ≡ served L t i) × (ended L (suc t) i ≡ ended L t i))
-    tick-cases t i =
+    tick_cases t i =
         let c = after L t in
         split (turn_cases t)
         (λ e. rw (after_idle t e) (inr (λ q. let z : ◌≡◌ {A = ℕ} 0 1 = cc in omega arith, refl, refl)))
@@ -162,31 +162,31 @@ module _ (L : Load) where
         ))))
 
     -- Service never falls and never passes what is owed.
-    pub served-grows : (t i : ℕ) → served L t i ≤ served L (suc t) i
-    served-grows t i = split (tick-cases t i) (λ q. omega arith) (λ q. omega arith)
+    pub served_grows : (t i : ℕ) → served L t i ≤ served L (suc t) i
+    served_grows t i = split (tick_cases t i) (λ q. omega arith) (λ q. omega arith)
 
-    pub served-later : (t k i : ℕ) → served L t i ≤ served L (t + k) i
-    served-later t zero i = omega (arith, ap (λ (m : ℕ). served L m i) (add-zero t))
-    served-later t (suc k) i =
-        omega (arith, served-later t k i, served-grows (t + k) i, ap (λ (m : ℕ). served L m i) (add-suc t k))
+    pub served_later : (t k i : ℕ) → served L t i ≤ served L (t + k) i
+    served_later t zero i = omega (arith, ap (λ (m : ℕ). served L m i) (add-zero t))
+    served_later t (suc k) i =
+        omega (arith, served_later t k i, served_grows (t + k) i, ap (λ (m : ℕ). served L m i) (add-suc t k))
 
-    pub served-most : (t i : ℕ) → served L t i ≤ L.owed i
-    served-most zero i = omega (arith, served-start i)
-    served-most (suc t) i =
-        let ih = served-most t i in
-        split (tick-cases t i) (λ q. omega (arith, (served_is_active t q.0).2)) (λ q. omega arith)
+    pub served_most : (t i : ℕ) → served L t i ≤ L.owed i
+    served_most zero i = omega (arith, served-start i)
+    served_most (suc t) i =
+        let ih = served_most t i in
+        split (tick_cases t i) (λ q. omega (arith, (served_is_active t q.0).2)) (λ q. omega arith)
 
     -- A group gets one tick more if one of it is served, and otherwise none.
-    pub group-tick :
+    pub group_tick :
         (ys : List ℕ) → Nodup ys → (t b : ℕ) → turn L t ≡ some b → Memᴰ b ys
         → weight (served L (suc t)) ys ≡ suc (weight (served L t) ys)
-    group-tick ys d t b e m =
+    group_tick ys d t b e m =
         weight_one_more (served L t) (served L (suc t)) b ys d m
-        (split (tick-cases t b) (λ q. q.1) (λ q. absurd (q.0 e)))
-        (λ i n ne. split (tick-cases t i) (λ q. let z : i ≡ b = cc q.0 in absurd (ne z)) (λ q. q.1))
+        (split (tick_cases t b) (λ q. q.1) (λ q. absurd (q.0 e)))
+        (λ i n ne. split (tick_cases t i) (λ q. let z : i ≡ b = cc q.0 in absurd (ne z)) (λ q. q.1))
 
-    pub group-other :
+    pub group_other :
         (ys : List ℕ) (t : ℕ) → ((b : ℕ) → turn L t ≡ some b → Memᴰ b ys → ⊥)
         → weight (served L (suc t)) ys ≡ weight (served L t) ys
-    group-other ys t h =
-        weight_cong (served L (suc t)) (served L t) ys (λ i m. split (tick-cases t i) (λ q. absurd (h i q.0 m)) (λ q. q.1))
+    group_other ys t h =
+        weight_cong (served L (suc t)) (served L t) ys (λ i m. split (tick_cases t i) (λ q. absurd (h i q.0 m)) (λ q. q.1))

@@ -42,6 +42,6 @@ module _ (s : Subjobs) (ds asks : List ℕ) where
     run-busy = busy_owed (load s ds asks) (counters s ds asks few)
 
     -- A finish is the end of the last tick served.
-    pub run-finish : (i : ℕ) → i < size s → 0 < due s asks i → LastTick (load s ds asks) i (get_or (run s ds asks).finishes i 0)
-    run-finish i h l =
+    pub run_finish : (i : ℕ) → i < size s → 0 < due s asks i → LastTick (load s ds asks) i (get_or (run s ds asks).finishes i 0)
+    run_finish i h l =
         rw (finish_at i h) (finish_last (load s ds asks) (counters s ds asks few) i (in_places (size s) i h) l)

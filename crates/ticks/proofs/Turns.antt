@@ -3,7 +3,7 @@
 -- sub-jobs has at most 2n events, however many ticks they span.
 --
 --   Reached L v f b t  == at moment t, no later than the horizon, v is served, f are the ends of the last ticks, b ticks were busy
---   eventsLeft L t v   == how many are not yet released, and how many still owed something
+--   events_left L t v   == how many are not yet released, and how many still owed something
 --   Next r xs t        == the next release after moment t, and whose it is
 use Prim.Native.Nat.{ℕ, ◌+◌, ◌-◌, ◌*◌, ◌≤◌, ◌<◌}
 use mathlib.Core.Bool.{Bool, cond}
@@ -26,9 +26,9 @@ use Rattle.subjobs.specs.Sets.{Subjobs, size, release, execution}
 use Rattle.ticks.specs.Core.{Load, start, pick, after, turn}
 use Rattle.ticks.specs.Runs.{horizon, due, load}
 use Rattle.ticks.specs.Events.{to_serve, next_release, stretch}
-use Rattle.ticks.proofs.Service.{On, Counters, after_add, lengths, pick_cases, pick-active, idle_none}
+use Rattle.ticks.proofs.Service.{On, Counters, after_add, lengths, pick_cases, pick_active, idle_none}
 use Rattle.ticks.proofs.Jumps.{Quiet, rested, jumped, jump, wait}
-use Rattle.ticks.proofs.Counted.{Done, weight_lt, busy-idle, done_rests, jump-horizon}
+use Rattle.ticks.proofs.Counted.{Done, weight_lt, busy-idle, done_rests, jump_horizon}
 
 pub record Reached (L : Load) (v f : List ℕ) (b t : ℕ) : Type 0 where
   pub served : (after L t).served ≡ v
@@ -83,14 +83,14 @@ module _ (L : Load) where
   abbrev unserved : List ℕ → ℕ → ℕ
   unserved v i = mark (get_or v i 0) (L.owed i)
 
-  abbrev pub eventsLeft : ℕ → List ℕ → ℕ
-  eventsLeft t v = weight (unreleased t) L.on + weight (unserved v) L.on
+  abbrev pub events_left : ℕ → List ℕ → ℕ
+  events_left t v = weight (unreleased t) L.on + weight (unserved v) L.on
 
   -- Somebody is released between two moments, or gets the last of what it is owed: an event less is left.
   fewer :
       (t u : ℕ) (v w : List ℕ) → t ≤ u → ((i : ℕ) → get_or v i 0 ≤ get_or w i 0) → {p : ℕ} → On L p
       → ((t < L.release p) × (L.release p ≤ u)) ⊎ ((get_or v p 0 < L.owed p) × (L.owed p ≤ get_or w p 0))
-      → eventsLeft u w < eventsLeft t v
+      → events_left u w < events_left t v
   fewer t u v w b g {p} m e =
       let later : (i : ℕ) → On L i → unreleased u i ≤ unreleased t i =
       λ i n. mark_le t (L.release i) u (L.release i) (λ a. omega arith)
@@ -121,8 +121,8 @@ module _ (L : Load) where
     abbrev next : ℕ
     next = next_release L.release L.on t
 
-    pub reached-busy : b ≤ t
-    reached-busy = omega (arith, R.busy, busy-idle L t)
+    pub reached_busy : b ≤ t
+    reached_busy = omega (arith, R.busy, busy-idle L t)
 
     -- Nobody can be served and nobody is released later: all is served, as it stands at the horizon.
     pub over : pick L t v ≡ none → next ≡ 0 → (f ≡ (after L (horizon L)).finish) × (b ≡ (after L (horizon L)).busy)
@@ -140,7 +140,7 @@ module _ (L : Load) where
         (rw same (sym R.finish), rw same (sym R.busy))
 
     -- The core waits for the next release.
-    pub waited : pick L t v ≡ none → next ≢ 0 → Reached L v f b next × (eventsLeft next v < eventsLeft t v)
+    pub waited : pick L t v ≡ none → next ≢ 0 → Reached L v f b next × (events_left next v < events_left t v)
     unfolding horizon
     waited e n =
         split (next_cases L.release L.on t) (λ w. absurd (n w.0))
@@ -177,9 +177,9 @@ module _ (L : Load) where
         quiet : Quiet L t m
         ends : (get_or v p 0 + m ≡ L.owed p) ⊎ ((t + m ≡ next) × Next L.release L.on t)
 
-      long-is : Stretch long
-      long-is =
-          let h = (pick-active L t v e).2 in
+      long_is : Stretch long
+      long_is =
+          let h = (pick_active L t v e).2 in
           split (next_cases L.release L.on t)
           (λ w.
           rw (le-leb next t (omega (arith, w.0)))
@@ -198,7 +198,7 @@ module _ (L : Load) where
       picked = rw R.served e
 
       inside : p < length (after L t).served
-      inside = omega (arith, lengths L t, K.small p (pick-active L t v e).0)
+      inside = omega (arith, lengths L t, K.small p (pick_active L t v e).0)
 
       -- it is served to p
       stretched : (m : ℕ) → Stretch m → after L (t + m) ≡ jumped t p m (after L t)
@@ -213,9 +213,9 @@ module _ (L : Load) where
           rw (z, get_or-set_same v p (get_or v p 0 + m) 0 (rw R.served at inside)) (omega arith))
           (λ q. omega (arith, get_or-set_other v p i (get_or v p 0 + m) 0 (eqb_no i p q)))
 
-      passed : (m : ℕ) → Stretch m → eventsLeft (t + m) (more m) < eventsLeft t v
+      passed : (m : ℕ) → Stretch m → events_left (t + m) (more m) < events_left t v
       passed m s =
-          let a = pick-active L t v e in
+          let a = pick_active L t v e in
           let full = get_or-set_same v p (get_or v p 0 + m) 0 (rw R.served at inside) in
           split s.ends
           (λ q. fewer t (t + m) v (more m) (omega arith) (raised m) a.0 (inr (a.2, omega arith)))
@@ -223,31 +223,31 @@ module _ (L : Load) where
           let N = q.1 in
           fewer t (t + m) v (more m) (omega arith) (raised m) N.among (inl (omega (arith, N.is, N.later), omega (arith, N.is, q.0))))
 
-      pub served-for :
+      pub served_for :
           (get_or v p 0 + long ≤ L.owed p)
           × Reached L (more long) (set f p (t + long)) (b + long) (t + long)
-          × (eventsLeft (t + long) (more long) < eventsLeft t v)
-      served-for = (
-        long-is.room,
+          × (events_left (t + long) (more long) < events_left t v)
+      served_for = (
+        long_is.room,
         record {
-          served = rw (stretched long long-is, R.served);
-          finish = rw (stretched long long-is, R.finish);
-          busy = rw (stretched long long-is, R.busy);
-          soon = jump-horizon L K t long p long-is.quiet picked (rw R.served long-is.room) long-is.some;
+          served = rw (stretched long long_is, R.served);
+          finish = rw (stretched long long_is, R.finish);
+          busy = rw (stretched long long_is, R.busy);
+          soon = jump_horizon L K t long p long_is.quiet picked (rw R.served long_is.room) long_is.some;
         },
-        passed long long-is,
+        passed long long_is,
       )
 
   -- The place to serve, read as a number: below n it is the pick, and n says that there is none.
-  pub to-serve :
+  pub to_serve_lem :
       (n t : ℕ) (v : List ℕ) → ((i : ℕ) → On L i → i < n) → (p : ℕ) → p ≡ to_serve L n t v
       → (p < n → pick L t v ≡ some p) × (n ≤ p → pick L t v ≡ none)
-  to-serve n t v small p is =
+  to_serve_lem n t v small p is =
       split (pick_cases L t v)
       (λ e. let z = is ∙ ap (λ (q : Option ℕ). given q n (λ i. i)) e in (λ h. absurd (omega arith), λ h. e))
       (λ q.
       let z : p ≡ q.0 = is ∙ ap (λ (q : Option ℕ). given q n (λ i. i)) q.1 in
-      (λ h. q.1 ∙ ap some (sym z), λ h. absurd (omega (arith, small q.0 (pick-active L t v q.1).0))))
+      (λ h. q.1 ∙ ap some (sym z), λ h. absurd (omega (arith, small q.0 (pick_active L t v q.1).0))))
 
 weight_by : (f : ℕ → ℕ) (k : ℕ) (xs : List ℕ) → ((i : ℕ) → Memᴰ i xs → f i ≤ k) → weight f xs ≤ length xs * k
 unfolding weight

@@ -4,7 +4,7 @@
 --   horizon L            == a moment by which all that is owed has been served (a theorem)
 --   finish L i           == the finish moment of place i
 --   end L                == the end of the run
---   busyTicks L, idleTicks L == its ticks
+--   busy_ticks L, idle_ticks L == its ticks
 --   run_of L              == all of these
 --   due s asks i         == what place i of a set is owed
 --   served_before s ds i j == with deadlines ds, place i is served before place j
@@ -36,11 +36,11 @@ module _ (L : Load) where
   end = greatest finish (filter (λ i. ltb 0 (L.owed i)) L.on)
 
   -- Busy ticks are those before the end in which something was served; idle ticks are the others before the end.
-  unfoldable pub busyTicks : ℕ
-  busyTicks = (after L end).busy
+  unfoldable pub busy_ticks : ℕ
+  busy_ticks = (after L end).busy
 
-  unfoldable pub idleTicks : ℕ
-  idleTicks = (after L end).idle
+  unfoldable pub idle_ticks : ℕ
+  idle_ticks = (after L end).idle
 
 pub record Run : Type 0 where
   pub finishes : List ℕ
@@ -50,8 +50,8 @@ pub record Run : Type 0 where
 
 -- A finish moment per sub-job, in the order of the places. Who opens a run computes all of it.
 unfoldable pub run_of : Load → Run
-unfolding start after horizon finish end busyTicks idleTicks
-run_of L = record { finishes = map (finish L) L.on; end = end L; busy = busyTicks L; idle = idleTicks L }
+unfolding start after horizon finish end busy_ticks idle_ticks
+run_of L = record { finishes = map (finish L) L.on; end = end L; busy = busy_ticks L; idle = idle_ticks L }
 
 -- A sub-job is owed the smaller of its ask and its execution.
 abbrev pub due : Subjobs → List ℕ → ℕ → ℕ

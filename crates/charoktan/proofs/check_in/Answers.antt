@@ -11,7 +11,7 @@ use Rattle.checker.specs.Answers.{answer, Checks}
 use Rattle.checker.proofs.Reported.{refused_within}
 use Rattle.charoktan.specs.Records.{records, count, words}
 use Rattle.charoktan.proofs.Coding.{fields_records, length-column}
-use Rattle.charoktan.proofs.Door.{fit_length, answered-check}
+use Rattle.charoktan.proofs.Door.{fit_length, answered_check}
 use Rattle.charoktan.proofs.check_in.Goals as goal
 
 -- What the checker says of what the bytes hold.
@@ -47,7 +47,7 @@ returns-in-Refused c =
     in
     let w = said c.args.records.now c.args.deadlines.now e c.column.ensures c.check-answer.ensures in
     c.code.ensures
-    ∙ sym (answered-check c.args.records.now c.args.deadlines.now c.requires.fits _ (w ∙ c.in-Refused.is))
+    ∙ sym (answered_check c.args.records.now c.args.deadlines.now c.requires.fits _ (w ∙ c.in-Refused.is))
 
 pub returns-in-Accepted : goal.returns-in-Accepted
 returns-in-Accepted c =
@@ -55,4 +55,4 @@ returns-in-Accepted c =
     fields_records c.args.records.now _ _ _ _ _ _ _ c.columns.ensures c.field.ensures c.field-2.ensures c.field-3.ensures c.field-4.ensures c.field-5.ensures c.field-6.ensures
     in
     let w = said c.args.records.now c.args.deadlines.now e c.column.ensures c.check-answer.ensures in
-    sym (answered-check c.args.records.now c.args.deadlines.now c.requires.fits _ (w ∙ c.in-Accepted.is))
+    sym (answered_check c.args.records.now c.args.deadlines.now c.requires.fits _ (w ∙ c.in-Accepted.is))

@@ -13,7 +13,7 @@ use Rattle.graph.proofs.Judged.{refused_within}
 use Rattle.graph.proofs.Finding.{results-length}
 use Rattle.charoktan.specs.Records.{graph_of, encoded}
 use Rattle.charoktan.proofs.Door.{front}
-use Rattle.charoktan.proofs.GraphDoor.{read, graph-length, graph-answered, finds}
+use Rattle.charoktan.proofs.GraphDoor.{read, graph_length, graph_answered, finds}
 use Rattle.charoktan.proofs.critical_in.Goals as goal
 
 -- What the graph's entry says of the graph that the bytes hold, and what it leaves.
@@ -57,7 +57,7 @@ code-requires c =
 
 pub put_all-requires : goal.put_all-requires
 put_all-requires c =
-    (search rules, graph-length c.args.executions.now c.args.arcs.now c.args.results.now c.requires.fits)
+    (search rules, graph_length c.args.executions.now c.args.arcs.now c.args.results.now c.requires.fits)
 
 pub returns-in-Refused : goal.returns-in-Refused
 returns-in-Refused c =
@@ -66,7 +66,7 @@ returns-in-Refused c =
     in
     let w = said c.args.executions.now c.args.arcs.now c.args.local.now c.requires.list e c.critical-answer.ensures in
     finds _ _ _ c.code.ensures refl
-    (graph-answered c.args.executions.now c.args.arcs.now c.args.results.now c.requires.fits _ (w.0 ∙ c.in-Refused.is))
+    (graph_answered c.args.executions.now c.args.arcs.now c.args.results.now c.requires.fits _ (w.0 ∙ c.in-Refused.is))
 
 pub returns-in-Passed : goal.returns-in-Passed
 returns-in-Passed c =
@@ -80,4 +80,4 @@ returns-in-Passed c =
     finds _ _ _ refl
     (c.put_all.ensures
     ∙ ap encoded (front (results g) (results-length g) n l _ c.requires.list c.requires.zeros (ap (λ (o : List ℕ). o ++ drop n l) w.1)))
-    (graph-answered c.args.executions.now c.args.arcs.now c.args.results.now c.requires.fits _ (w.0 ∙ c.in-Passed.is))
+    (graph_answered c.args.executions.now c.args.arcs.now c.args.results.now c.requires.fits _ (w.0 ∙ c.in-Passed.is))

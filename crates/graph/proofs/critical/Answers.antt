@@ -1,7 +1,7 @@
 -- `critical` meets its contract: a refusal of `judge`, a cycle that the rounds show, or the values that they settle.
 use mathlib.Core.Path.{refl, sym, ◌∙◌}
 use Rattle.graph.specs.Graphs.{graph}
-use Rattle.graph.proofs.Finding.{settling, refused-first, refused-cycle, small, found}
+use Rattle.graph.proofs.Finding.{settling, refused_first, refused_cycle, small, found}
 use Rattle.graph.proofs.critical.Goals as goal
 
 pub settle-settled-requires : goal.settle-settled-requires
@@ -16,7 +16,7 @@ returns-then-not-settled c =
     let a = c.args in
     let g = graph a.executions.now a.befores.now a.afters.now a.hops.now in
     let passed = sym c.judge-judged.ensures ∙ c.in-Passed.is in
-    refused-cycle g a.results.now passed (c.settle-settled.ensures.cycle c.if-not-settled.true)
+    refused_cycle g a.results.now passed (c.settle-settled.ensures.cycle c.if-not-settled.true)
 
 pub write-requires : goal.write-requires
 write-requires c =
@@ -31,7 +31,7 @@ pub returns-in-Refused : goal.returns-in-Refused
 returns-in-Refused c =
     let a = c.args in
     let g = graph a.executions.now a.befores.now a.afters.now a.hops.now in
-    refused-first g _ _ (sym c.judge-judged.ensures ∙ c.in-Refused.is)
+    refused_first g _ _ (sym c.judge-judged.ensures ∙ c.in-Refused.is)
 
 -- the values
 pub returns-else-not-settled : goal.returns-else-not-settled

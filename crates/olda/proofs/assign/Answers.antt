@@ -3,7 +3,7 @@
 use borrow.Author.Rules.{rules}
 use Rattle.subjobs.specs.Sets.{Subjobs, subjobs}
 use Rattle.olda.specs.Parts.{Places}
-use Rattle.olda.proofs.Reports.{same_places, judged_refused, judged-fits, placed-reporting, placed-refused, placed-passed}
+use Rattle.olda.proofs.Reports.{same_places, judged_refused, judged_fits, placed_reporting, placed_refused, placed_passed}
 use Rattle.olda.proofs.assign.Goals as goal
 use Rattle.olda.proofs.assign.Goals.{then-jobs-le8, else-jobs-le8}
 
@@ -13,11 +13,11 @@ returns-in-Refused c =
 
 pub place_few-placed-requires : goal.place_few-placed-requires
 place_few-placed-requires c =
-    record { fits = judged-fits _ _ c.judge-judgement.ensures c.in_default.is; jobs_len_bound = search rules }
+    record { fits = judged_fits _ _ c.judge-judgement.ensures c.in_default.is; jobs_len_bound = search rules }
 
 pub place_many-placed-requires : goal.place_many-placed-requires
 place_many-placed-requires c =
-    judged-fits _ _ c.judge-judgement.ensures c.in_default.is
+    judged_fits _ _ c.judge-judgement.ensures c.in_default.is
 
 pub report-requires : goal.report-requires
 report-requires c =
@@ -30,7 +30,7 @@ report-requires c =
       | else-jobs-le8 w ↦ same_places w.out-is w.placed-is w.place_many-placed.ensures
     ]
     in
-    placed-reporting s c.args.out.now c.judge-judgement.ensures c.in_default.is p
+    placed_reporting s c.args.out.now c.judge-judgement.ensures c.in_default.is p
 
 pub returns-in-Refused-placed : goal.returns-in-Refused-placed
 returns-in-Refused-placed c =
@@ -43,7 +43,7 @@ returns-in-Refused-placed c =
       | else-jobs-le8 w ↦ same_places w.out-is w.placed-is w.place_many-placed.ensures
     ]
     in
-    placed-refused s c.args.out.now c.judge-judgement.ensures c.in_default.is p c.in-Refused-placed.is
+    placed_refused s c.args.out.now c.judge-judgement.ensures c.in_default.is p c.in-Refused-placed.is
 
 pub returns-in-Passed : goal.returns-in-Passed
 returns-in-Passed c =
@@ -56,4 +56,4 @@ returns-in-Passed c =
       | else-jobs-le8 w ↦ same_places w.out-is w.placed-is w.place_many-placed.ensures
     ]
     in
-    placed-passed s c.args.out.now c.judge-judgement.ensures c.in_default.is p c.in-Passed.is c.report.ensures
+    placed_passed s c.args.out.now c.judge-judgement.ensures c.in_default.is p c.in-Passed.is c.report.ensures

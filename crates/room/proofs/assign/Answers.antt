@@ -2,7 +2,7 @@
 use mathlib.Core.Path.{sym, ◌∙◌}
 use Rattle.subjobs.specs.Sets.{subjobs}
 use Rattle.stretches.specs.Answers.{room}
-use Rattle.room.proofs.Answered.{unfit, too_large, all-sets, all-assigned}
+use Rattle.room.proofs.Answered.{unfit, too_large, all_sets, all_assigned}
 use Rattle.room.proofs.assign.Goals as goal
 
 pub returns-then-not-fitting : goal.returns-then-not-fitting
@@ -27,7 +27,7 @@ assign_each-requires c =
     let R = room (subjobs a.jobs.now a.subtasks.now a.releases.now a.executions.now a.deadlines.now a.criticals.now)
     a.lengths.now a.results.now a.numbers.now a.places.now
     in
-    all-sets R (sym c.fitting.ensures ∙ c.if-not-fitting.false) c.if-not-lengths-jobs.false
+    all_sets R (sym c.fitting.ensures ∙ c.if-not-fitting.false) c.if-not-lengths-jobs.false
 
 pub returns : goal.returns
 returns c =
@@ -35,4 +35,4 @@ returns c =
     let R = room (subjobs a.jobs.now a.subtasks.now a.releases.now a.executions.now a.deadlines.now a.criticals.now)
     a.lengths.now a.results.now a.numbers.now a.places.now
     in
-    all-assigned R (sym c.fitting.ensures ∙ c.if-not-fitting.false) c.if-not-lengths-jobs.false c.assign_each.ensures
+    all_assigned R (sym c.fitting.ensures ∙ c.if-not-fitting.false) c.if-not-lengths-jobs.false c.assign_each.ensures

@@ -2,7 +2,7 @@
 use mathlib.Core.Path.{ap, ◌∙◌}
 use native.Mathlib.Omega.{arith}
 use Rattle.stretches.specs.Answers.{number, place}
-use Rattle.room.proofs.Turns.{place_within, turned_none, turned-inside, turned-next, turned-all}
+use Rattle.room.proofs.Turns.{place_within, turned_none, turned_inside, turned_next, turned_all}
 use Rattle.room.proofs.assign_each.Goals as goal
 
 pub loop-k-init : goal.loop-k-init
@@ -15,7 +15,7 @@ offset_bounds-lengths-k c =
 
 pub assign_at-requires : goal.assign_at-requires
 assign_at-requires c =
-    turned-inside _ _ c.loop-k.invariant c.loop-k-test.true _ c.index-count.ensures
+    turned_inside _ _ c.loop-k.invariant c.loop-k-test.true _ c.index-count.ensures
 
 pub told-verdict-requires : goal.told-verdict-requires
 told-verdict-requires c =
@@ -39,7 +39,7 @@ bounds-places-k c =
 
 pub overflow_add-start : goal.overflow_add-start
 overflow_add-start c =
-    let w = turned-inside _ _ c.loop-k.invariant c.loop-k-test.true _ c.index-count.ensures in
+    let w = turned_inside _ _ c.loop-k.invariant c.loop-k-test.true _ c.index-count.ensures in
     record { fits = omega (arith, w.inside, w.few) }
 
 pub overflow_add-k : goal.overflow_add-k
@@ -53,10 +53,10 @@ loop-k-smaller c =
 pub loop-k-preserved : goal.loop-k-preserved
 loop-k-preserved c =
     let a = c.assign_at.ensures in
-    turned-next _ _ c.loop-k.invariant c.loop-k-test.true _ c.index-count.ensures a.1
+    turned_next _ _ c.loop-k.invariant c.loop-k-test.true _ c.index-count.ensures a.1
     (c.told-verdict.ensures.0 ∙ ap number a.0)
     (c.told-verdict.ensures.1 ∙ ap place a.0)
 
 pub returns : goal.returns
 returns c =
-    turned-all _ _ c.loop-k.invariant c.loop-k-test.false
+    turned_all _ _ c.loop-k.invariant c.loop-k-test.false

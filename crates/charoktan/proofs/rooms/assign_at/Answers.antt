@@ -2,7 +2,7 @@
 use Prim.Native.Nat.{◌+◌, ◌-◌, ◌*◌}
 use mathlib.Core.Path.{◌≡◌}
 use native.Mathlib.Omega.{arith}
-use Rattle.charoktan.proofs.RoomDoor.{code_here, bytes-here}
+use Rattle.charoktan.proofs.RoomDoor.{code_here, bytes_here}
 use Rattle.charoktan.proofs.rooms.assign_at.Goals as goal
 
 pub returns : goal.returns
@@ -12,5 +12,5 @@ returns c =
     let j : 4 * (a.start + a.count) - 4 * a.start ≡ 4 * a.count = omega arith in
     let e = c.charoktan_assign.ensures in (
       code_here a.records.now a.deadlines.now a.start a.count _ _ c.requires i j e.0,
-      bytes-here a.records.now a.deadlines.now a.start a.count _ _ c.requires i j e.1,
+      bytes_here a.records.now a.deadlines.now a.start a.count _ _ c.requires i j e.1,
     )

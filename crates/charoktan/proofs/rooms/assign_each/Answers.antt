@@ -1,7 +1,7 @@
 -- `rooms::assign_each` meets its contract: each turn assigns one set, whatever became of those before it.
 use native.Mathlib.Omega.{arith}
 use Rattle.charoktan.proofs.Coding.{put_length}
-use Rattle.charoktan.proofs.RoomDoor.{turned_none, turned-numbers, turned-places, turned-stretch, turned-next, turned-all}
+use Rattle.charoktan.proofs.RoomDoor.{turned_none, turned_numbers, turned_places, turned_stretch, turned_next, turned_all}
 use Rattle.charoktan.proofs.rooms.assign_each.Goals as goal
 
 pub loop-k-init : goal.loop-k-init
@@ -10,7 +10,7 @@ loop-k-init c =
 
 pub assign_at-code-requires : goal.assign_at-code-requires
 assign_at-code-requires c =
-    turned-stretch _ _ c.loop-k.invariant c.loop-k-test.true _ c.length_at-count.ensures
+    turned_stretch _ _ c.loop-k.invariant c.loop-k-test.true _ c.length_at-count.ensures
 
 pub overflow_mul-k : goal.overflow_mul-k
 overflow_mul-k c =
@@ -18,7 +18,7 @@ overflow_mul-k c =
 
 pub put-requires : goal.put-requires
 put-requires c =
-    omega (arith, turned-numbers _ _ c.loop-k.invariant, c.loop-k-test.true)
+    omega (arith, turned_numbers _ _ c.loop-k.invariant, c.loop-k-test.true)
 
 pub overflow_mul-k-in-loop-k : goal.overflow_mul-k-in-loop-k
 overflow_mul-k-in-loop-k c =
@@ -26,11 +26,11 @@ overflow_mul-k-in-loop-k c =
 
 pub put-requires-in-loop-k : goal.put-requires-in-loop-k
 put-requires-in-loop-k c =
-    omega (arith, turned-places _ _ c.loop-k.invariant, c.loop-k-test.true)
+    omega (arith, turned_places _ _ c.loop-k.invariant, c.loop-k-test.true)
 
 pub overflow_add-start : goal.overflow_add-start
 overflow_add-start c =
-    let s = turned-stretch _ _ c.loop-k.invariant c.loop-k-test.true _ c.length_at-count.ensures in
+    let s = turned_stretch _ _ c.loop-k.invariant c.loop-k-test.true _ c.length_at-count.ensures in
     record { fits = omega (arith, s.inside, s.few) }
 
 pub overflow_add-k : goal.overflow_add-k
@@ -44,7 +44,7 @@ loop-k-smaller c =
 pub loop-k-preserved : goal.loop-k-preserved
 loop-k-preserved c =
     let a = c.assign_at-code.ensures in
-    turned-next _ _ c.loop-k.invariant c.loop-k-test.true _ c.length_at-count.ensures a.0 a.1
+    turned_next _ _ c.loop-k.invariant c.loop-k-test.true _ c.length_at-count.ensures a.0 a.1
     c.put.ensures
     c.put-in-loop-k.ensures
 
@@ -62,4 +62,4 @@ shape_of-places c =
 
 pub returns : goal.returns
 returns c =
-    turned-all _ _ c.loop-k.invariant c.loop-k-test.false
+    turned_all _ _ c.loop-k.invariant c.loop-k-test.false

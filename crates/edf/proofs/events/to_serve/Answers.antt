@@ -1,7 +1,7 @@
 -- `events::to_serve` meets its contract: at each turn what was found and what is left to look at decide the whole choice.
 use borrow.Author.Rules.{rules}
 use mathlib.Core.Path.{sym, ◌∙◌}
-use Rattle.edf.proofs.Looking.{look_start, look_done, look_skip, look-first, look-better, look-worse}
+use Rattle.edf.proofs.Looking.{look_start, look_done, look_skip, look_first, look_better, look_worse}
 use Rattle.edf.proofs.events.to_serve.Goals as goal
 
 pub loop-i-init : goal.loop-i-init
@@ -10,20 +10,20 @@ loop-i-init c =
 
 pub loop-i-preserved-then-best-n : goal.loop-i-preserved-then-best-n
 loop-i-preserved-then-best-n c =
-    look-first c.loop-i.invariant (search rules)
+    look_first c.loop-i.invariant (search rules)
     (sym c.active.ensures ∙ c.if-active.true)
     c.if-best-n.true
 
 pub loop-i-preserved-then-sooner : goal.loop-i-preserved-then-sooner
 loop-i-preserved-then-sooner c =
-    look-better c.loop-i.invariant (search rules)
+    look_better c.loop-i.invariant (search rules)
     (sym c.active.ensures ∙ c.if-active.true)
     (search rules)
     (sym c.sooner.ensures ∙ c.if-sooner.true)
 
 pub loop-i-preserved-else-sooner : goal.loop-i-preserved-else-sooner
 loop-i-preserved-else-sooner c =
-    look-worse c.loop-i.invariant (search rules)
+    look_worse c.loop-i.invariant (search rules)
     (sym c.active.ensures ∙ c.if-active.true)
     (search rules)
     (sym c.sooner.ensures ∙ c.if-sooner.false)

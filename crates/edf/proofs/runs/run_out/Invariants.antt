@@ -1,7 +1,7 @@
 -- `runs::run_out` meets its contract: at each turn the program holds what the core of single ticks has at that moment.
 use mathlib.Core.Path.{◌≡◌}
 use lib.ListN.{length}
-use Rattle.ticks.proofs.Turns.{Reached, eventsLeft}
+use Rattle.ticks.proofs.Turns.{Reached, events_left}
 use Rattle.edf.specs.Parts.{lists, load_in}
 use Rattle.edf.proofs.runs.run_out.Given as goal
 
@@ -13,4 +13,4 @@ invariant-loop-owed l =
 
 abbrev pub decreases-loop-owed : goal.decreases-loop-owed
 decreases-loop-owed l =
-    eventsLeft (load_in (lists l.jobs l.subtasks l.releases l.executions l.local l.asks)) l.t l.served
+    events_left (load_in (lists l.jobs l.subtasks l.releases l.executions l.local l.asks)) l.t l.served

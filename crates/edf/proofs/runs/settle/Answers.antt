@@ -9,7 +9,7 @@ use Rattle.edf.specs.declared.Totals.{Totals}
 use Rattle.edf.specs.declared.runs.Ended.{Ended}
 use Rattle.edf.specs.Answers.{added, above}
 use Rattle.edf.specs.Parts.{read_off, end_in}
-use Rattle.edf.proofs.Settled.{not_above, settled-refused, settled-ran}
+use Rattle.edf.proofs.Settled.{not_above, settled_refused, settled_ran}
 use Rattle.edf.proofs.runs.settle.Goals as goal
 
 -- What the two tests say together, of the totals with the ticks of the run.
@@ -25,7 +25,7 @@ above-is rs cs qs e t m a b is x y =
 pub returns-then-above : goal.returns-then-above
 returns-then-above c =
     let A = c.args in
-    settled-refused _ _ _ _ _ _
+    settled_refused _ _ _ _ _ _
     (sym (above-is A.releases.now A.executions.now A.asks.now A.core A.totals _ _ _ c.end_of-end.ensures c.above.ensures c.above-2.ensures)
     ∙ c.if-above.true)
 
@@ -49,5 +49,5 @@ pub returns : goal.returns
 returns c =
     let A = c.args in
     let a = above-is A.releases.now A.executions.now A.asks.now A.core A.totals _ _ _ c.end_of-end.ensures c.above.ensures c.above-2.ensures in
-    settled-ran _ _ _ _ _ _ (sym a ∙ c.if-above.false) _ c.end_of-end.ensures _
+    settled_ran _ _ _ _ _ _ (sym a ∙ c.if-above.false) _ c.end_of-end.ensures _
     (rw c.requires.executions c.write_finishes.ensures)

@@ -4,7 +4,7 @@ use Prim.Native.Nat.{◌+◌, ◌-◌}
 use mathlib.Core.Path.{◌≡◌, refl, ◌∙◌}
 use native.Mathlib.Omega.{arith}
 use lib.ListN.{length}
-use Rattle.graph.proofs.Lifting.{going_none, going-lift, going_next, going-arc, going-over}
+use Rattle.graph.proofs.Lifting.{going_none, going_lift, going_next, going_arc, going_over}
 use Rattle.graph.proofs.guessing.peel.Goals as goal
 
 pub ends-tail-requires : goal.ends-tail-requires
@@ -21,7 +21,7 @@ pub raise-before-requires : goal.raise-before-requires
 raise-before-requires c =
     let L = c.loop-steps in
     let p = c.requires.guessing in
-    going-arc _ L.invariant.1 p (omega (arith, p.sound.few.subjobs, p.sound.few.arcs)) _ (search rules)
+    going_arc _ L.invariant.1 p (omega (arith, p.sound.few.subjobs, p.sound.few.arcs)) _ (search rules)
 
 pub last-ready-requires : goal.last-ready-requires
 last-ready-requires c =
@@ -38,19 +38,19 @@ loop-steps-preserved-then-ready c =
     let L = c.loop-steps in
     let p = c.requires in
     let w = c.wait-tail.ensures in
-    (search rules, going-lift _ L.invariant.1 _ (omega arith) c.raise-before.ensures, c.last-ready.ensures ∙ L.invariant.2, w.room ∙ L.invariant.3, w.places, omega (arith, w.inside, L.invariant.3), omega (arith, c.index-link.ensures, p.others (L.link - 1)))
+    (search rules, going_lift _ L.invariant.1 _ (omega arith) c.raise-before.ensures, c.last-ready.ensures ∙ L.invariant.2, w.room ∙ L.invariant.3, w.places, omega (arith, w.inside, L.invariant.3), omega (arith, c.index-link.ensures, p.others (L.link - 1)))
 
 pub loop-steps-preserved-else-ready : goal.loop-steps-preserved-else-ready
 loop-steps-preserved-else-ready c =
     let L = c.loop-steps in
     let p = c.requires in
-    (search rules, going-lift _ L.invariant.1 _ (omega arith) c.raise-before.ensures, c.last-ready.ensures ∙ L.invariant.2, L.invariant.3, L.invariant.4, L.invariant.5, omega (arith, c.index-link.ensures, p.others (L.link - 1)))
+    (search rules, going_lift _ L.invariant.1 _ (omega arith) c.raise-before.ensures, c.last-ready.ensures ∙ L.invariant.2, L.invariant.3, L.invariant.4, L.invariant.5, omega (arith, c.index-link.ensures, p.others (L.link - 1)))
 
 pub returns-then-tail-head : goal.returns-then-tail-head
 returns-then-tail-head c =
     let L = c.loop-steps in
     let p = c.requires.guessing in
-    going-over _ L.invariant.1 (omega (arith, p.sound.few.subjobs, p.sound.few.arcs))
+    going_over _ L.invariant.1 (omega (arith, p.sound.few.subjobs, p.sound.few.arcs))
 
 pub offset_bounds-first-index : goal.offset_bounds-first-index
 offset_bounds-first-index c =
@@ -70,4 +70,4 @@ pub returns : goal.returns
 returns c =
     let L = c.loop-steps in
     let p = c.requires.guessing in
-    going-over _ L.invariant.1 (omega (arith, p.sound.few.subjobs, p.sound.few.arcs))
+    going_over _ L.invariant.1 (omega (arith, p.sound.few.subjobs, p.sound.few.arcs))

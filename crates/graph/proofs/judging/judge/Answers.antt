@@ -1,7 +1,7 @@
 -- `judging::judge` meets its contract: each return is one of the two tests or what a search found.
 use Rattle.graph.specs.Graphs.{graph}
 use Rattle.graph.specs.Answers.{judgement}
-use Rattle.graph.proofs.Judged.{one_length_lem, few_so, execution-out, executions-in, hop-out, hops-in, arc-out, arcs-in}
+use Rattle.graph.proofs.Judged.{one_length_lem, few_so, execution_out, executions_in, hop_out, hops_in, arc_out, arcs_in}
 use Rattle.graph.proofs.judging.judge.Goals as goal
 
 pub returns-then-not-results-n : goal.returns-then-not-results-n
@@ -17,7 +17,7 @@ unfolding judgement
 returns-then-place-n c =
     let a = c.args in
     let g = graph a.executions.now a.befores.now a.afters.now a.hops.now in
-    rw (c.if-not-results-n.false, c.if-not-n-m.false, execution-out g c.first_outside-place.ensures c.if-place-n.true)
+    rw (c.if-not-results-n.false, c.if-not-n-m.false, execution_out g c.first_outside-place.ensures c.if-place-n.true)
 
 pub returns-then-hop-m : goal.returns-then-hop-m
 unfolding judgement
@@ -28,8 +28,8 @@ returns-then-hop-m c =
     rw (
       c.if-not-results-n.false,
       c.if-not-n-m.false,
-      executions-in g c.first_outside-place.ensures c.if-place-n.false,
-      hop-out g long.hops c.first_outside-hop.ensures c.if-hop-m.true,
+      executions_in g c.first_outside-place.ensures c.if-place-n.false,
+      hop_out g long.hops c.first_outside-hop.ensures c.if-hop-m.true,
     )
 
 pub first_stray-arc-requires : goal.first_stray-arc-requires
@@ -47,9 +47,9 @@ returns-then-arc-m c =
     rw (
       c.if-not-results-n.false,
       c.if-not-n-m.false,
-      executions-in g c.first_outside-place.ensures c.if-place-n.false,
-      hops-in g long.hops c.first_outside-hop.ensures c.if-hop-m.false,
-      arc-out g c.first_stray-arc.ensures c.if-arc-m.true,
+      executions_in g c.first_outside-place.ensures c.if-place-n.false,
+      hops_in g long.hops c.first_outside-hop.ensures c.if-hop-m.false,
+      arc_out g c.first_stray-arc.ensures c.if-arc-m.true,
     )
 
 pub returns : goal.returns
@@ -61,7 +61,7 @@ returns c =
     rw (
       c.if-not-results-n.false,
       c.if-not-n-m.false,
-      executions-in g c.first_outside-place.ensures c.if-place-n.false,
-      hops-in g long.hops c.first_outside-hop.ensures c.if-hop-m.false,
-      arcs-in g c.first_stray-arc.ensures c.if-arc-m.false,
+      executions_in g c.first_outside-place.ensures c.if-place-n.false,
+      hops_in g long.hops c.first_outside-hop.ensures c.if-hop-m.false,
+      arcs_in g c.first_stray-arc.ensures c.if-arc-m.false,
     )

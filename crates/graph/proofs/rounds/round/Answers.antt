@@ -2,7 +2,7 @@
 use borrow.Author.Rules.{rules}
 use mathlib.Core.Path.{refl}
 use native.Mathlib.Omega.{arith}
-use Rattle.graph.proofs.Raising.{going_start, going-up, going-stays, going_done, asking}
+use Rattle.graph.proofs.Raising.{going_start, going_up, going_stays, going_done, asking}
 use Rattle.graph.proofs.rounds.round.Goals as goal
 
 pub loop-k-init : goal.loop-k-init
@@ -25,7 +25,7 @@ loop-k-preserved-then-found-before c =
     let h = c.loop-k-test.true in (
       search rules,
       refl,
-      going-up _ L.invariant.2 _ h c.arc_at.ensures.0 c.asked-wish.ensures R.sound (omega (arith, R.room, L.invariant.2.room)) c.if-found-before.true,
+      going_up _ L.invariant.2 _ h c.arc_at.ensures.0 c.asked-wish.ensures R.sound (omega (arith, R.room, L.invariant.2.room)) c.if-found-before.true,
     )
 
 pub loop-k-preserved : goal.loop-k-preserved
@@ -33,7 +33,7 @@ loop-k-preserved c =
     let L = c.loop-k in (
       search rules,
       refl,
-      going-stays _ L.invariant.2 _ c.loop-k-test.true c.arc_at.ensures.0 c.asked-wish.ensures c.if-found-before.false,
+      going_stays _ L.invariant.2 _ c.loop-k-test.true c.arc_at.ensures.0 c.asked-wish.ensures c.if-found-before.false,
     )
 
 pub returns : goal.returns

@@ -2,7 +2,7 @@
 use mathlib.Core.Path.{refl, ◌∙◌}
 use native.Mathlib.Omega.{arith}
 use Rattle.lists.proofs.Cases.{clash}
-use Rattle.graph.proofs.Raising.{turning_start, turning-round, turning-on, guessed_none}
+use Rattle.graph.proofs.Raising.{turning_start, turning_round, turning_on, guessed_none}
 use Rattle.graph.proofs.rounds.settle.Goals as goal
 
 pub loop-turn-init : goal.loop-turn-init
@@ -11,7 +11,7 @@ loop-turn-init c =
 
 pub round-rose-requires : goal.round-rose-requires
 round-rose-requires c =
-    turning-round _ c.requires.sound c.loop-turn.invariant.1 (omega (arith, c.loop-turn-test.true))
+    turning_round _ c.requires.sound c.loop-turn.invariant.1 (omega (arith, c.loop-turn-test.true))
 
 pub returns-then-not-rose : goal.returns-then-not-rose
 returns-then-not-rose c =
@@ -39,7 +39,7 @@ loop-turn-preserved-then-turn-executions c =
     let L = c.loop-turn in
     let s = c.requires.sound in (
       G.room ∙ R.ensures.room ∙ L.invariant.0,
-      turning-on _ s L.invariant.1 (omega (arith, c.loop-turn-test.true)) (rw c.if-not-rose.false at R.ensures) G,
+      turning_on _ s L.invariant.1 (omega (arith, c.loop-turn-test.true)) (rw c.if-not-rose.false at R.ensures) G,
     )
 
 pub loop-turn-preserved : goal.loop-turn-preserved
@@ -48,7 +48,7 @@ loop-turn-preserved c =
     let L = c.loop-turn in
     let s = c.requires.sound in (
       R.ensures.room ∙ L.invariant.0,
-      turning-on _ s L.invariant.1 (omega (arith, c.loop-turn-test.true)) (rw c.if-not-rose.false at R.ensures) (guessed_none _ _ R.ensures.attained),
+      turning_on _ s L.invariant.1 (omega (arith, c.loop-turn-test.true)) (rw c.if-not-rose.false at R.ensures) (guessed_none _ _ R.ensures.attained),
     )
 
 pub returns : goal.returns

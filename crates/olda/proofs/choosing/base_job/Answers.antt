@@ -5,7 +5,7 @@ use mathlib.Core.Logic.{inl, inr}
 use mathlib.Core.Path.{sym, ◌∙◌}
 use native.Mathlib.Omega.{arith}
 use Rattle.lists.proofs.Cases.{clash}
-use Rattle.olda.proofs.Chosen.{topped_first, topped_one, topped_held, topped-next, topped-bound, topped-new, topped-old, topped_all}
+use Rattle.olda.proofs.Chosen.{topped_first, topped_one, topped_held, topped_next, topped_bound, topped_new, topped_old, topped_all}
 use Rattle.olda.proofs.choosing.base_job.Goals as goal
 use Rattle.olda.proofs.choosing.base_job.Goals.{then-top-bound, then-top-bound-via-then-top-bound, then-top-bound-via-else-top-bound+then-behind, then-top-bound-2, else-top-bound-2, else-top-bound+else-behind}
 
@@ -23,17 +23,17 @@ loop-i-init c =
 
 pub offset_bounds-bounds-place : goal.offset_bounds-bounds-place
 offset_bounds-bounds-place c =
-    search (rules, topped-bound)
+    search (rules, topped_bound)
 
 pub bounds-bounds-place : goal.bounds-bounds-place
 bounds-bounds-place c =
-    topped-bound c.loop-i.invariant c.loop-i-test.true c.index-place.ensures
+    topped_bound c.loop-i.invariant c.loop-i-test.true c.index-place.ensures
 
 pub behind-requires : goal.behind-requires
 behind-requires c =
     let T = c.loop-i.invariant in
     let p = topped_held T c.index-then-top-bound-2.ensures in
-    let q = topped-next T c.loop-i-test.true c.index-place.ensures in
+    let q = topped_next T c.loop-i-test.true c.index-place.ensures in
     (p.job, p.subtask, q.job, q.subtask)
 
 pub loop-i-preserved : goal.loop-i-preserved
@@ -42,7 +42,7 @@ loop-i-preserved c =
     elim c.if-top-bound.branch [
       | then-top-bound w ↦
           rw (w.at-is, w.top-is)
-          (topped-new T c.loop-i-test.true c.index-place.ensures
+          (topped_new T c.loop-i-test.true c.index-place.ensures
           (elim w.then-top-bound.branch [
             | then-top-bound-via-then-top-bound t ↦ inl t.if-top-bound.true
             | then-top-bound-via-else-top-bound+then-behind t ↦
@@ -54,7 +54,7 @@ loop-i-preserved c =
           ]))
       | else-top-bound+else-behind w ↦
           rw (w.at-is, w.top-is)
-          (topped-old T c.loop-i-test.true c.index-place.ensures
+          (topped_old T c.loop-i-test.true c.index-place.ensures
           (elim w.if-top-bound-2.branch [
             | then-top-bound-2 s ↦
                 inr (s.if-top-bound-2.true, rw s.index-then-top-bound-2.ensures at (sym s.behind.ensures ∙ sym s.value-is ∙ w.if-behind.false))

@@ -1,6 +1,6 @@
 -- `reporting::least_slack` meets its contract: of the places looked at so far the one found has the least slack.
 use borrow.Author.Rules.{rules}
-use Rattle.olda.proofs.Chosen.{tight_one, tight-new, tight-old, tight_all}
+use Rattle.olda.proofs.Chosen.{tight_one, tight_new, tight_old, tight_all}
 use Rattle.olda.proofs.reporting.least_slack.Goals as goal
 use Rattle.olda.proofs.reporting.least_slack.Goals.{then-tighter, else-tighter}
 
@@ -11,8 +11,8 @@ loop-i-init c =
 pub loop-i-preserved : goal.loop-i-preserved
 loop-i-preserved c =
     elim c.if-tighter.branch [
-      | then-tighter w ↦ rw w.p-is (search (rules, tight-new))
-      | else-tighter w ↦ rw w.p-is (search (rules, tight-old))
+      | then-tighter w ↦ rw w.p-is (search (rules, tight_new))
+      | else-tighter w ↦ rw w.p-is (search (rules, tight_old))
     ]
 
 pub returns : goal.returns

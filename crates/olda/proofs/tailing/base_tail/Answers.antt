@@ -1,6 +1,6 @@
 -- `tailing::base_tail` meets its contract: of the completions seen so far the one found is the latest of the greatest.
 use borrow.Author.Rules.{rules}
-use Rattle.olda.proofs.Held.{leading_first, leading-new, leading-old, leading_all}
+use Rattle.olda.proofs.Held.{leading_first, leading_new, leading_old, leading_all}
 use Rattle.olda.proofs.tailing.base_tail.Goals as goal
 use Rattle.olda.proofs.tailing.base_tail.Goals.{then-ends-start, else-ends-start}
 
@@ -11,8 +11,8 @@ loop-i-init c =
 pub loop-i-preserved : goal.loop-i-preserved
 loop-i-preserved c =
     elim c.if-ends-start.branch [
-      | then-ends-start w ↦ rw w.start-is (search (rules, leading-new))
-      | else-ends-start w ↦ rw w.start-is (search (rules, leading-old))
+      | then-ends-start w ↦ rw w.start-is (search (rules, leading_new))
+      | else-ends-start w ↦ rw w.start-is (search (rules, leading_old))
     ]
 
 pub returns : goal.returns

@@ -7,7 +7,7 @@ use mathlib.Core.List.{List}
 use mathlib.Core.Path.{◌≡◌, refl, sym, ◌∙◌}
 use lib.Dec.{eqb}
 use lib.ListN.{get_or}
-use Rattle.lists.proofs.Count.{some-last, some-but-last, some_none}
+use Rattle.lists.proofs.Count.{some_last, some_but_last, some_none}
 use Rattle.subjobs.proofs.judging.seen_earlier.Goals as goal
 use Rattle.subjobs.proofs.judging.seen_earlier.Goals.{else-subtasks-j-via-then-subtasks-j+else-jobs-j, else-subtasks-j-via-else-subtasks-j}
 
@@ -25,7 +25,7 @@ returns-then-jobs-j c =
     let a = c.args in
     sym
     (sym L.invariant.1
-    ∙ some-last (Same a.jobs.now a.subtasks.now a.place) L.j c.loop-j-test.true (rw (eq-eqb _ _ c.if-jobs-j.true, eq-eqb _ _ c.if-subtasks-j.true)))
+    ∙ some_last (Same a.jobs.now a.subtasks.now a.place) L.j c.loop-j-test.true (rw (eq-eqb _ _ c.if-jobs-j.true, eq-eqb _ _ c.if-subtasks-j.true)))
 
 pub loop-j-preserved : goal.loop-j-preserved
 loop-j-preserved c =
@@ -39,7 +39,7 @@ loop-j-preserved c =
           rw (ne_eqb _ _ w.if-subtasks-j.false) (and-false (eqb (get_or a.jobs.now (L.j - 1) 0) (get_or a.jobs.now a.place 0)))
     ]
     in
-    (search rules, sym (some-but-last P L.j c.loop-j-test.true no) ∙ L.invariant.1)
+    (search rules, sym (some_but_last P L.j c.loop-j-test.true no) ∙ L.invariant.1)
 
 pub returns : goal.returns
 returns c =

@@ -3,7 +3,7 @@ use Prim.Native.Nat.{ℕ, ◌+◌, ◌*◌}
 use native.Mathlib.Omega.{arith}
 use mathlib.Core.Path.{◌≡◌, refl, sym, ◌∙◌}
 use lib.ListN.{length-set}
-use Rattle.table.proofs.Filling.{scattered-more, scattered_done}
+use Rattle.table.proofs.Filling.{scattered_more, scattered_done}
 use Rattle.table.proofs.reading.put.Goals as goal
 
 start : {p : ℕ} → 128 * 0 + p ≡ p
@@ -15,7 +15,7 @@ loop-k-init c =
 
 pub loop-k-preserved : goal.loop-k-preserved
 loop-k-preserved c =
-    (simp length-set c.loop-k.invariant.0, sym (scattered-more _ _ _ _ c.loop-k-test.true) ∙ c.loop-k.invariant.1)
+    (simp length-set c.loop-k.invariant.0, sym (scattered_more _ _ _ _ c.loop-k-test.true) ∙ c.loop-k.invariant.1)
 
 pub shape_of-lists : goal.shape_of-lists
 shape_of-lists c =

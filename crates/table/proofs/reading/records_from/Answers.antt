@@ -2,7 +2,7 @@
 use mathlib.Core.Path.{refl, sym, ◌∙◌}
 use native.Mathlib.Omega.{arith}
 use Rattle.text.proofs.Scanning.{recorded_all}
-use Rattle.table.proofs.Filling.{reached_start, reached_end, reached-many, reached-broken, reached-more}
+use Rattle.table.proofs.Filling.{reached_start, reached_end, reached_many, reached_broken, reached_more}
 use Rattle.table.proofs.reading.records_from.Goals as goal
 
 pub loop-i-init : goal.loop-i-init
@@ -15,7 +15,7 @@ shape_of-lists-then-count-ge128 c =
 
 pub returns-then-count-ge128 : goal.returns-then-count-ge128
 returns-then-count-ge128 c =
-    reached-many c.loop-i.invariant.1 c.loop-i-test.true c.if-count-ge128.true
+    reached_many c.loop-i.invariant.1 c.loop-i-test.true c.if-count-ge128.true
 
 pub shape_of-lists-in_default : goal.shape_of-lists-in_default
 shape_of-lists-in_default c =
@@ -23,7 +23,7 @@ shape_of-lists-in_default c =
 
 pub returns-in_default : goal.returns-in_default
 returns-in_default c =
-    reached-broken c.loop-i.invariant.1 c.loop-i-test.true c.if-count-ge128.false (sym c.record_at.ensures.end ∙ c.in_default.is)
+    reached_broken c.loop-i.invariant.1 c.loop-i-test.true c.if-count-ge128.false (sym c.record_at.ensures.end ∙ c.in_default.is)
 
 pub put-requires : goal.put-requires
 put-requires c =
@@ -34,7 +34,7 @@ pub loop-i-preserved : goal.loop-i-preserved
 loop-i-preserved c =
     let a = recorded_all c.record_at.ensures _ c.in-Next.is in (
       c.put.auto.lists ∙ c.loop-i.invariant.0,
-      rw c.put.ensures (reached-more c.loop-i.invariant.1 c.loop-i-test.true c.if-count-ge128.false _ _ a.0 a.1),
+      rw c.put.ensures (reached_more c.loop-i.invariant.1 c.loop-i-test.true c.if-count-ge128.false _ _ a.0 a.1),
     )
 
 pub shape_of-lists : goal.shape_of-lists

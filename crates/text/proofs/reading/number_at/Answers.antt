@@ -9,7 +9,7 @@ use borrow.Author.Tests.{le-leb, lt-leb}
 use lib.ListN.{length, drop, get_or}
 use Rattle.lists.proofs.Cases.{tests}
 use Rattle.text.specs.Reading.{digits, number, number_at}
-use Rattle.text.proofs.Scanning.{digit, too_long, too_great, digits_end, digits-stop, digits_more}
+use Rattle.text.proofs.Scanning.{digit, too_long, too_great, digits_end, digits_stop, digits_more}
 use Rattle.text.proofs.reading.number_at.Goals as goal
 use Rattle.text.proofs.reading.number_at.Goals.{else-loop-i-test, then-loop-i-test+then-b}
 
@@ -56,7 +56,7 @@ returns-then-count-lt1 c =
     ≡ record { value = c.loop-i.value; count = c.loop-i.count; end = c.loop-i.i } =
     elim c.loop-i-test.branch [
       | else-loop-i-test w ↦ digits_end c.args.text.now _ _ _ w.loop-i-test.false
-      | then-loop-i-test+then-b w ↦ digits-stop c.args.text.now _ _ _ w.loop-i-test.true w.if-b.true
+      | then-loop-i-test+then-b w ↦ digits_stop c.args.text.now _ _ _ w.loop-i-test.true w.if-b.true
     ]
     in
     sym (sym c.loop-i.invariant.2 ∙ ap number left ∙ simp (lt-leb _ _ c.if-count-lt1.true))
@@ -69,7 +69,7 @@ returns c =
     ≡ record { value = c.loop-i.value; count = c.loop-i.count; end = c.loop-i.i } =
     elim c.loop-i-test.branch [
       | else-loop-i-test w ↦ digits_end c.args.text.now _ _ _ w.loop-i-test.false
-      | then-loop-i-test+then-b w ↦ digits-stop c.args.text.now _ _ _ w.loop-i-test.true w.if-b.true
+      | then-loop-i-test+then-b w ↦ digits_stop c.args.text.now _ _ _ w.loop-i-test.true w.if-b.true
     ]
     in
     sym (sym c.loop-i.invariant.2 ∙ ap number left ∙ simp (le-leb _ _ c.if-count-lt1.false, le-leb _ _ c.loop-i.invariant.1, le-leb _ _ c.loop-i.invariant.0))

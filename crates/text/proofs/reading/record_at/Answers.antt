@@ -1,6 +1,6 @@
 -- `record_at` meets its contract: at each turn the fields that are left decide the whole.
 use mathlib.Core.Path.{sym, ◌∙◌}
-use Rattle.text.proofs.Scanning.{filled_none, filled_all, filled-broken, filled_more}
+use Rattle.text.proofs.Scanning.{filled_none, filled_all, filled_broken, filled_more}
 use Rattle.text.proofs.reading.record_at.Goals as goal
 
 pub loop-k-init : goal.loop-k-init
@@ -13,7 +13,7 @@ shape_of-out-in_default c =
 
 pub returns-in_default : goal.returns-in_default
 returns-in_default c =
-    filled-broken c.loop-k.invariant c.loop-k-test.true (sym c.cell_at.ensures ∙ c.in_default.is)
+    filled_broken c.loop-k.invariant c.loop-k-test.true (sym c.cell_at.ensures ∙ c.in_default.is)
 
 pub loop-k-preserved : goal.loop-k-preserved
 loop-k-preserved c =
