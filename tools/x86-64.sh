@@ -7,10 +7,10 @@
 #                                 x86_64_start (the words to put before a program)
 #   x86_64_qemu                   sets the array x86_64_emulator (QEMU's user mode, on any machine);
 #                                 to be called after x86_64_compiler
-#   x86_64_archive                sets x86_64_library, the archive, made by rt if it is missing or
-#                                 older than a file of the crates
-#   x86_64_kit                    sets the array x86_64_program (the words to put before a program
-#                                 that rt built: the kit's loader, and its emulator where it has one)
+#   x86_64_archive                sets x86_64_library, the archive, made by tools/archive if it is
+#                                 missing or older than a file of the crates
+#   x86_64_kit                    rt is there; sets the array x86_64_program (the words to put before a
+#                                 program that rt built)
 #
 # CHAROKTAN_ARCHIVE names an archive to take in the place of the tree's own. Link no program with
 # -static: Debian's cross compiler has no static libm that links.
@@ -62,20 +62,26 @@ x86_64_compiler() {
 }
 
 x86_64_kit() {
-    local kit
     command -v rt >/dev/null || x86_64_fail "rt, Rattle's command, is not on the PATH"
-    kit=$(dirname "$(dirname "$(rt doc)")")/on/$(uname -m)/toolchain
-    x86_64_program=("$kit/lib/ld-linux-x86-64.so.2" --library-path "$kit/lib")
-    [ ! -x "$kit/bin/qemu-x86_64" ] || x86_64_program=("$kit/bin/qemu-x86_64" "${x86_64_program[@]}")
+    x86_64_program=()
+    [ "$(uname -m)" != x86_64 ] || return 0
+    x86_64_compiler
+    x86_64_program=("${x86_64_start[@]}")
+}
+
+# Whether FILE is missing, or older than a file of the crates. What rt keeps in out/ is none.
+x86_64_older() {
+    local tree=$1 file=$2
+    [ ! -e "$file" ] || [ "$tree/crates.txt" -nt "$file" ] ||
+        [ -n "$(find "$tree/crates" -mindepth 2 -name out -prune -o -newer "$file" -print -quit)" ]
 }
 
 x86_64_archive() {
     local tree
     tree=$(cd "$(dirname "${BASH_SOURCE[0]}")/.." && pwd)
     x86_64_library=${CHAROKTAN_ARCHIVE:-$tree/target/staticlib/libcharoktan.a}
-    if [ -z "${CHAROKTAN_ARCHIVE:-}" ] && { [ ! -e "$x86_64_library" ] ||
-        [ -n "$(find "$tree/crates" "$tree/crates.txt" -newer "$x86_64_library" -print -quit)" ]; }; then
-        (cd "$tree" && rt staticlib charoktan) >&2 || x86_64_fail "rt staticlib charoktan failed"
+    if [ -z "${CHAROKTAN_ARCHIVE:-}" ] && x86_64_older "$tree" "$x86_64_library"; then
+        "$tree/tools/archive" >&2 || x86_64_fail "tools/archive failed"
     fi
     [ -e "$x86_64_library" ] || x86_64_fail "there is no archive $x86_64_library"
 }
