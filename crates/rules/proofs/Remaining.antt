@@ -108,7 +108,7 @@ module _ (T : Terms) where
       (w.0, after b (d b) t (omega arith) w.1, w.2, w.3))
 
   module _ (o : Order T.lower) where
-    falls-on :
+    falls_on :
         {zs ys : List ℕ} {p m : ℕ}
         → Remains T zs ys
         → Turn T ys p m
@@ -117,12 +117,12 @@ module _ (T : Terms) where
         → Turn T xs b k
         → zs ≡ without b xs
         → m < k
-    falls-on still u xs b k ones t e = turn_falls T o xs ones t (rw e at u)
-    falls-on {zs} (after b' k' t' h r) u xs b k ones t e =
+    falls_on still u xs b k ones t e = turn_falls T o xs ones t (rw e at u)
+    falls_on {zs} (after b' k' t' h r) u xs b k ones t e =
         omega (
           arith,
           turn_falls T o xs ones t (rw e at t'),
-          falls-on r u zs b' k' (rw e (ones_without T.execution b xs ones)) t' refl,
+          falls_on r u zs b' k' (rw e (ones_without T.execution b xs ones)) t' refl,
         )
 
     -- Completions fall from a turn to all later ones.
@@ -133,7 +133,7 @@ module _ (T : Terms) where
         → Remains T (without b xs) ys
         → Turn T ys p m
         → m < k
-    remains_falls {xs} {b = b} {k = k} ones t r u = falls-on r u xs b k ones t refl
+    remains_falls {xs} {b = b} {k = k} ones t r u = falls_on r u xs b k ones t refl
 
     -- All that remains after b is placed gets smaller deadlines than b.
     pub accepted_falls :

@@ -148,18 +148,18 @@ module _ {π ρ : ℕ → ℕ} {T T' : Terms} where
       }
 
   -- The same with what the recursion keeps in front.
-  accepts-on :
+  accepts_on :
       (d d' : ℕ → ℕ) {xs ys : List ℕ}
       → Renamed π ρ T T' xs ys
       → ((i : ℕ) → Memᴰ i xs → d i ≡ d' (π i))
       → Accepts T d xs
       → Accepts T' d' ys
-  accepts-on d d' {xs} {ys} e same over = rw (moved_nil π [] ys e.moved refl) over
-  accepts-on d d' {xs} {ys} e same (place b t h a) =
+  accepts_on d d' {xs} {ys} e same over = rw (moved_nil π [] ys e.moved refl) over
+  accepts_on d d' {xs} {ys} e same (place b t h a) =
       let k = turn_in t in
       let q = same b k in
       place (π b) (rw q at (renamed_turn e t)) (omega (arith, e.deadline b k, e.withheld b k))
-      (accepts-on d d' (renamed_without e k) (λ i m. same i (filter_in (λ j. not (eqb j b)) xs m).0) a)
+      (accepts_on d d' (renamed_without e k) (λ i m. same i (filter_in (λ j. not (eqb j b)) xs m).0) a)
 
   -- What the rules give xs, they give the new places.
   pub renamed_accepts :
@@ -169,20 +169,20 @@ module _ {π ρ : ℕ → ℕ} {T T' : Terms} where
       → ((i : ℕ) → Memᴰ i xs → d i ≡ d' (π i))
       → Accepts T d xs
       → Accepts T' d' ys
-  renamed_accepts e d d' same a = accepts-on d d' e same a
+  renamed_accepts e d d' same a = accepts_on d d' e same a
 
-  refuses-on : {p m : ℕ} {xs ys : List ℕ} → Renamed π ρ T T' xs ys → Refuses T p m xs → Refuses T' (π p) m ys
-  refuses-on {p} e (here t h) =
+  refuses_on : {p m : ℕ} {xs ys : List ℕ} → Renamed π ρ T T' xs ys → Refuses T p m xs → Refuses T' (π p) m ys
+  refuses_on {p} e (here t h) =
       let k = turn_in t in
       here (renamed_turn e t) (omega (arith, e.deadline p k, e.withheld p k))
-  refuses-on e (later b m t h a) =
+  refuses_on e (later b m t h a) =
       let k = turn_in t in
-      later (π b) m (renamed_turn e t) (omega (arith, e.deadline b k, e.withheld b k)) (refuses-on (renamed_without e k) a)
+      later (π b) m (renamed_turn e t) (omega (arith, e.deadline b k, e.withheld b k)) (refuses_on (renamed_without e k) a)
 
   -- Where the rules refuse xs, they refuse the new places.
   pub renamed_refuses :
       {xs ys : List ℕ} → Renamed π ρ T T' xs ys → {p m : ℕ} → Refuses T p m xs → Refuses T' (π p) m ys
-  renamed_refuses e f = refuses-on e f
+  renamed_refuses e f = refuses_on e f
 
   -- The conditions, the slacks and the least of them, of deadlines d of xs that are the deadlines d' of the new places.
   module _ {xs ys : List ℕ} (e : Renamed π ρ T T' xs ys) (d d' : ℕ → ℕ) (same : (i : ℕ) → Memᴰ i xs → d i ≡ d' (π i)) where

@@ -1,6 +1,6 @@
 // Numbers and lists of numbers in decimal text. Where the text is not as it should be, or has ended,
 // numbers are 0 and lists are empty: a case of kind 0 ends the program.
-ghost use Rattle.std.specs.Prelude.{◌<◌, ◌≤◌, IfOk, length};
+ghost use Rattle.std.specs.Prelude.{◌<◌, ◌≤◌, ◌≡◌, IfOk, length, take};
 
 use std::io::{self, Read};
 
@@ -38,7 +38,7 @@ pub(crate) fn number(text: &[u8], at: &mut usize) -> u64 {
 // The list that stands in the text at `at`, its length and then its numbers: how many it has. One
 // that `into` cannot hold ends the text.
 pub(crate) fn list(text: &[u8], at: &mut usize, into: &mut [u32]) -> usize
-    ensures { result ≤ length into.new }
+    ensures { (result ≤ length into.new) × (result ≡ length (take result into.new)) }
 {
     let count = number(text, at) as usize;
     if into.len() < count {
