@@ -1,5 +1,5 @@
 -- What is asked of a graph, place by place and with no search: what a graph is that is accepted, and what one is that is
--- refused. A law (`found-exactly`, `refused_exactly`) says that `critical`'s answer is just this.
+-- refused. A law (`found_exactly`, `refused_exactly`) says that `critical`'s answer is just this.
 --
 --   OneLength g n      == executions and results, a list of length n, are of one length, and so are the arcs' lists
 --   Few g              == at most 128 sub-jobs and 1,024 arcs
