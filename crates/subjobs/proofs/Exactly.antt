@@ -8,26 +8,26 @@ use native.Mathlib.Omega.{arith}
 use lib.Dec.{eqb}
 use Rattle.lists.proofs.Cases.{split, test, clash, tests}
 use Rattle.lists.proofs.Searched.{onward}
-use Rattle.subjobs.specs.declared.Judgement.{Judgement}
-use Rattle.subjobs.specs.declared.Judgement.TheVariants.{Passed, Refused}
+use Rattle.subjobs.specs.Judging.{Judgement, passed}
+use Rattle.std.specs.Prelude.{Ok, Err}
 use Rattle.subjobs.specs.declared.Reason.{Reason}
 use Rattle.subjobs.specs.Reasons.{number_of}
 use Rattle.subjobs.specs.Judging.{unless, or_else, refusal_from, first_refusal}
 
 -- P makes j pass, Q r makes it refuse for r, and one of these holds.
 pub record Exactly (j : Judgement) (P : Type 0) (Q : Reason → Type 0) : Type 0 where
-  pub passes : P → j ≡ Passed
-  pub refuses : (r : Reason) → Q r → j ≡ Refused r
+  pub passes : P → j ≡ passed
+  pub refuses : (r : Reason) → Q r → j ≡ Err r
   pub holds : P ⊎ ((r : Reason) × Q r)
 
-pub refused_passed : {X : Type 0} (r : Reason) → Refused r ≡ Passed → X
+pub refused_passed : {X : Type 0} (r : Reason) → Err r ≡ passed → X
 refused_passed r e = let z : ◌≡◌ {A = ℕ} 0 1 = cc in absurd (omega arith)
 
 module _ {j : Judgement} {P : Type 0} {Q : Reason → Type 0} (x : Exactly j P Q) where
-  pub passing : (j ≡ Passed) ↔ P
+  pub passing : (j ≡ passed) ↔ P
   passing = (λ e. split x.holds (λ p. p) (λ q. refused_passed q.0 (sym (x.refuses q.0 q.1) ∙ e)), x.passes)
 
-  pub refusing : (r : Reason) → (j ≡ Refused r) ↔ Q r
+  pub refusing : (r : Reason) → (j ≡ Err r) ↔ Q r
   refusing r = (
     λ e.
         split x.holds (λ p. refused_passed r (sym e ∙ x.passes p))
@@ -120,11 +120,11 @@ module _ (J : ℕ → Judgement) (P : ℕ → Type 0) (Q : ℕ → Reason → Ty
 
 -- Two judgements that pass alike, and refuse by one number.
 pub data SameNumber : Judgement → Judgement → Type 0 where
-  pass : SameNumber Passed Passed
-  refuse : {r r' : Reason} → number_of r ≡ number_of r' → SameNumber (Refused r) (Refused r')
+  pass : SameNumber passed passed
+  refuse : {r r' : Reason} → number_of r ≡ number_of r' → SameNumber (Err r) (Err r')
 
 pub same_or :
-    {a a' b b' : Judgement} → SameNumber a a' → (a ≡ Passed → SameNumber b b') → SameNumber (or_else a b) (or_else a' b')
+    {a a' b b' : Judgement} → SameNumber a a' → (a ≡ passed → SameNumber b b') → SameNumber (or_else a b) (or_else a' b')
 same_or pass y = y refl
 same_or (refuse e) y = refuse e
 
@@ -132,8 +132,8 @@ same_or (refuse e) y = refuse e
 pub same_refused :
     {j j' : Judgement} {r : Reason}
     → SameNumber j j'
-    → j ≡ Refused r
-    → (r' : Reason) × (j' ≡ Refused r') × (number_of r ≡ number_of r')
+    → j ≡ Err r
+    → (r' : Reason) × (j' ≡ Err r') × (number_of r ≡ number_of r')
 same_refused {r = r} pass e = refused_passed r (sym e)
 same_refused {r = r} (refuse {r = q} {r' = r'} n) e = let g : r ≡ q = cc in (r', refl, ap number_of g ∙ n)
 

@@ -11,11 +11,11 @@ use Rattle.lists.proofs.Cases.{split, clash, both, tests}
 use Rattle.lists.proofs.Searched.{some_cases}
 use Rattle.subjobs.specs.declared.Field.{Field}
 use Rattle.subjobs.specs.declared.Field.TheVariants.{Release, Execution, Deadline, Critical, Hop}
-use Rattle.subjobs.specs.declared.Judgement.TheVariants.{Passed, Refused}
+use Rattle.std.specs.Prelude.{Ok, Err}
 use Rattle.subjobs.specs.declared.Reason.{Reason}
 use Rattle.subjobs.specs.declared.Reason.TheVariants.{Lengths, TooMany, Range, Pair}
 use Rattle.subjobs.specs.Sets.{Subjobs, size, job, subtask, release, execution, deadline, critical}
-use Rattle.subjobs.specs.Judging.{unless, one_length, range_at, ranges, pair_at, pairs, judgement}
+use Rattle.subjobs.specs.Judging.{unless, one_length, range_at, ranges, pair_at, pairs, judgement, passed}
 use Rattle.subjobs.specs.Faults.{OneLength, InRange, AllInRange, Ranged, RangedBefore, SamePair, Faulty, lengths, many, range, pair}
 use Rattle.subjobs.proofs.Exactly.{Exactly, passing, refusing, exactly_so, exactly_test, exactly_unless, exactly_or, exactly_first}
 pub use Rattle.subjobs.specs.Faults.{Fit}
@@ -180,14 +180,14 @@ module _ (s : Subjobs) (others : Bool) where
       (pair w.0 j.0 l.0 m.0 a.0 w.1 (λ i k a b e f. w.2 k b i a (e, f)) j.1 j.2)))))
       reasons
 
-  pub passed_exactly : (judgement s others ≡ Passed) ↔ Fit s others
+  pub passed_exactly : (judgement s others ≡ passed) ↔ Fit s others
   passed_exactly = passing judged
 
-  pub judged_exactly : (r : Reason) → (judgement s others ≡ Refused r) ↔ Faulty s others r
+  pub judged_exactly : (r : Reason) → (judgement s others ≡ Err r) ↔ Faulty s others r
   judged_exactly = refusing judged
 
-  pub fit : judgement s others ≡ Passed → Fit s others
+  pub fit : judgement s others ≡ passed → Fit s others
   fit = passed_exactly.0
 
-  pub fit_passes : Fit s others → judgement s others ≡ Passed
+  pub fit_passes : Fit s others → judgement s others ≡ passed
   fit_passes = passed_exactly.1

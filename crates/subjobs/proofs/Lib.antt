@@ -1,5 +1,6 @@
 pub mod Searching
 pub mod Exactly
+pub mod Leaving
 pub mod Fit
 pub mod Reported
 pub mod Differences

@@ -3,7 +3,7 @@ use Prim.Native.Nat.{◌≤◌, ◌<◌}
 use mathlib.Core.Bool.{Bool}
 use mathlib.Core.Path.{◌≡◌}
 use native.Mathlib.Omega.{arith}
-use Rattle.subjobs.specs.declared.Judgement.TheVariants.{Refused}
+use Rattle.std.specs.Prelude.{Ok, Err}
 use Rattle.subjobs.specs.declared.Reason.{Reason}
 use Rattle.subjobs.specs.declared.Reason.TheVariants.{Lengths, TooMany, Range, Pair, Late, Unmet, Missed, Totals, TextTooLong, Header, Malformed, Stray, Cycle, TooLarge}
 use Rattle.subjobs.specs.Reasons.{number_of, place_of}
@@ -18,7 +18,7 @@ faulty_within s others r (many l m) = omega arith
 faulty_within s others r (range p f l m b all before n) = omega arith
 faulty_within s others r (pair p j l m all b once before same) = omega arith
 
-pub judged_within : (s : Subjobs) (others : Bool) (r : Reason) → judgement s others ≡ Refused r → place_of r < 128
+pub judged_within : (s : Subjobs) (others : Bool) (r : Reason) → judgement s others ≡ Err r → place_of r < 128
 judged_within s others r e = faulty_within s others r ((judged_exactly s others r).0 e)
 
 pub number_range : (r : Reason) → (1 ≤ number_of r) × (number_of r ≤ 99)

@@ -5,8 +5,8 @@ use native.Mathlib.Nat.{sub-zero}
 use native.Mathlib.Numerals.{add-one}
 use native.Mathlib.Omega.{arith}
 use Rattle.lists.proofs.Count.{left_more, left_none}
-use Rattle.subjobs.specs.declared.Judgement.{Judgement}
-use Rattle.subjobs.specs.declared.Judgement.TheVariants.{Passed, Refused}
+use Rattle.subjobs.specs.Judging.{Judgement, passed}
+use Rattle.std.specs.Prelude.{Ok, Err}
 use Rattle.subjobs.specs.declared.Reason.{Reason}
 use Rattle.subjobs.specs.Judging.{or_else, refusal_from, first_refusal}
 
@@ -15,7 +15,7 @@ module _ (J : ℕ → Judgement) (n i : ℕ) where
   unfolding refusal_from
   refusal_step h = rw (left_more n i h, add-one)
 
-  pub refusal_done : n ≤ i → refusal_from J (n - i) i ≡ Passed
+  pub refusal_done : n ≤ i → refusal_from J (n - i) i ≡ passed
   unfolding refusal_from
   refusal_done h = rw (left_none n i h)
 
@@ -24,7 +24,7 @@ module _ (J : ℕ → Judgement) (n i : ℕ) {all : Judgement} (held : refusal_f
   pub refusal_turn : {j : Judgement} → i < n → J i ≡ j → or_else j (refusal_from J (n - (i + 1)) (i + 1)) ≡ all
   refusal_turn {j} h e = ap (λ (a : Judgement). or_else a (refusal_from J (n - (i + 1)) (i + 1))) (sym e) ∙ sym (refusal_step J n i h) ∙ held
 
-  pub refusal_end : n ≤ i → Passed ≡ all
+  pub refusal_end : n ≤ i → passed ≡ all
   refusal_end h = sym (refusal_done J n i h) ∙ held
 
 -- A loop that goes on while nobody is refused: what is left to look at decides the whole search.
@@ -36,17 +36,17 @@ pub seek_start : (J : ℕ → Judgement) (n : ℕ) → Seeking J n 0
 seek_start J n = record { place = omega arith; rest = rw sub-zero }
 
 module _ {J : ℕ → Judgement} {n i : ℕ} (S : Seeking J n i) where
-  pub seek_found : i < n → (r : Reason) → J i ≡ Refused r → Refused r ≡ first_refusal J n
+  pub seek_found : i < n → (r : Reason) → J i ≡ Err r → Err r ≡ first_refusal J n
   seek_found h r e = refusal_turn J n i S.rest h e
 
-  pub seek_on : i < n → J i ≡ Passed → Seeking J n (i + 1)
+  pub seek_on : i < n → J i ≡ passed → Seeking J n (i + 1)
   seek_on h e = record { place = omega arith; rest = refusal_turn J n i S.rest h e }
 
-  pub seek_done : n ≤ i → Passed ≡ first_refusal J n
+  pub seek_done : n ≤ i → passed ≡ first_refusal J n
   seek_done h = refusal_end J n i S.rest h
 
 -- A search may start behind a first place that passes.
-pub refusal_second : (J : ℕ → Judgement) (n : ℕ) → J 0 ≡ Passed → refusal_from J (n - 1) 1 ≡ refusal_from J n 0
+pub refusal_second : (J : ℕ → Judgement) (n : ℕ) → J 0 ≡ passed → refusal_from J (n - 1) 1 ≡ refusal_from J n 0
 unfolding refusal_from
 refusal_second J zero e = refl
 refusal_second J (suc n) e = let z : suc n - 1 ≡ n = omega arith in rw (z, e)

@@ -2,36 +2,42 @@
 -- in which they are made, those of a set in `judgement`, those of one place in `range_at`; a further one is a further line.
 -- What the judgement says of a set with no search in it is in Faults.
 --
+--   Judgement           == what refusals say: it passes, or the reason why not
 --   unless b r          == refused for r unless b holds
 --   or_else a b          == a's refusal, and b's judgement if a passes
 --   first_refusal J n    == the refusal of the smallest place below n that J refuses
 --   if_passed j a f      == a if j passes, f of the reason if it refuses
 --   judgement s others  == refusals 1 to 4 in the order of the numbers
 --   values j            == number and values of a judgement: 0, or what the reason tells
-use Rattle.std.specs.Prelude.{ℕ, zero, suc, Bool, cond, not, ◌&&◌, List, [], ◌∷◌, ◌≡◌, leb, eqb, ℤ, pos, length}
+use Rattle.std.specs.Prelude.{Result, Ok, Err, ℕ, zero, suc, Bool, cond, not, ◌&&◌, List, [], ◌∷◌, ◌≡◌, leb, eqb, ℤ, pos, length}
 use Rattle.lists.specs.Search.{some}
 use Rattle.subjobs.specs.declared.Field.TheVariants.{Release, Execution, Deadline, Critical}
 use Rattle.subjobs.specs.declared.Reason.{Reason}
 use Rattle.subjobs.specs.declared.Reason.TheVariants.{Lengths, TooMany, Range, Pair}
-use Rattle.subjobs.specs.declared.Judgement.{Judgement}
-use Rattle.subjobs.specs.declared.Judgement.TheVariants.{Passed, Refused}
 use Rattle.subjobs.specs.Reasons as reasons
 use Rattle.subjobs.specs.Sets.{Subjobs, size, job, subtask, release, execution, deadline, critical}
 
+-- What refusals say of a set, of a graph or of a room: it passes, or the reason why not.
+abbrev pub Judgement : Type 0
+Judgement = Result (Unit {0}) Reason
+
+abbrev pub passed : Judgement
+passed = Ok tt
+
 abbrev pub unless : Bool → Reason → Judgement
-unless b r = cond b Passed (Refused r)
+unless b r = cond b passed (Err r)
 
 abbrev pub or_else : Judgement → Judgement → Judgement
-or_else Passed j = j
-or_else (Refused r) j = Refused r
+or_else (Ok tt) j = j
+or_else (Err r) j = Err r
 
 abbrev pub if_passed : {A : Type 0} → Judgement → A → (Reason → A) → A
-if_passed Passed a f = a
-if_passed (Refused r) a f = f r
+if_passed (Ok tt) a f = a
+if_passed (Err r) a f = f r
 
 -- among the n places from i on
 unfoldable pub refusal_from : (ℕ → Judgement) → ℕ → ℕ → Judgement
-refusal_from J zero i = Passed
+refusal_from J zero i = passed
 refusal_from J (suc n) i = or_else (J i) (refusal_from J n (suc i))
 
 abbrev pub first_refusal : (ℕ → Judgement) → ℕ → Judgement
@@ -81,5 +87,5 @@ abbrev pub Judges : Subjobs → Bool → Judgement → Type 0
 Judges s others r = r ≡ judgement s others
 
 abbrev pub values : Judgement → List ℤ
-values Passed = pos 0 ∷ []
-values (Refused r) = reasons.values r
+values (Ok tt) = pos 0 ∷ []
+values (Err r) = reasons.values r

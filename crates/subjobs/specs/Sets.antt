@@ -8,6 +8,7 @@
 --   by_bound dl z i j  == the upper bound of i, dl i less z i, is below that of j
 --   by_pair job subtask i j == i has the smaller job, of equal jobs the smaller subtask
 use Rattle.std.specs.Prelude.{ℕ, ◌+◌, Bool, List, ltb, length, get_or}
+use Rattle.subjobs.specs.declared.Set.{Set}
 use Rattle.lists.specs.Places.{taken}
 use Rattle.lists.specs.Order.{by, lex}
 
@@ -23,6 +24,10 @@ pub record Subjobs : Type 0 where
 abbrev pub subjobs : List ℕ → List ℕ → List ℕ → List ℕ → List ℕ → List ℕ → Subjobs
 subjobs js ks rs cs ds zs =
     record { jobs = js; subtasks = ks; releases = rs; executions = cs; deadlines = ds; criticals = zs }
+
+abbrev pub subjobs_of : Set → Subjobs
+subjobs_of s =
+    subjobs s.jobs.now s.subtasks.now s.releases.now s.executions.now s.deadlines.now s.criticals.now
 
 abbrev pub size : Subjobs → ℕ
 size s = length s.jobs

@@ -1,31 +1,19 @@
 -- `judging::ranges` meets its contract: at each turn what is left to look at decides the whole search.
-use borrow.Author.Rules.{rules}
-use Prim.Native.Nat.{ℕ}
-use mathlib.Core.Path.{sym, ◌∙◌}
-use mathlib.Core.List.{List}
-use lib.ListN.{get_or}
-use native.Mathlib.Nat.{sub-zero}
-use Rattle.subjobs.specs.declared.Judgement.{Judgement}
-use Rattle.subjobs.specs.Judging.{range_at}
-use Rattle.subjobs.proofs.Searching.{refusal_turn, refusal_end}
+use Rattle.std.proofs.Common.{sym, ◌∙◌}
+use Rattle.subjobs.proofs.Leaving.{leaves}
+use Rattle.subjobs.proofs.Searching.{seek_start, seek_found, seek_on, seek_done}
 use Rattle.subjobs.proofs.judging.ranges.Goals as goal
 
--- What is said of the place i.
-abbrev At : List ℕ → List ℕ → List ℕ → List ℕ → ℕ → Judgement
-At rs cs ds zs i = range_at i (get_or rs i 0) (get_or cs i 0) (get_or ds i 0) (get_or zs i 0)
-
 pub loop-i-init : goal.loop-i-init
-loop-i-init c =
-    (search rules, simp sub-zero)
+loop-i-init c = seek_start _ _
 
-pub returns-in-Refused : goal.returns-in-Refused
-returns-in-Refused c =
-    refusal_turn _ _ _ c.loop-i.invariant.1 c.loop-i-test.true (sym c.range_at-found.ensures ∙ c.in-Refused.is)
+pub returns-in_err-range_at : goal.returns-in_err-range_at
+returns-in_err-range_at c =
+    leaves _ c.in_err-range_at.field-0.0 c.from_residual.ensures.1
+    ∙ seek_found c.loop-i.invariant c.loop-i-test.true _ (sym c.range_at.ensures ∙ c.in_err-range_at.was)
 
 pub loop-i-preserved : goal.loop-i-preserved
-loop-i-preserved c =
-    (search rules, refusal_turn _ _ _ c.loop-i.invariant.1 c.loop-i-test.true (sym c.range_at-found.ensures ∙ c.in_default.is))
+loop-i-preserved c = seek_on c.loop-i.invariant c.loop-i-test.true (sym c.range_at.ensures ∙ c.in_ok-range_at.was)
 
 pub returns : goal.returns
-returns c =
-    refusal_end _ _ _ c.loop-i.invariant.1 c.loop-i-test.false
+returns c = seek_done c.loop-i.invariant c.loop-i-test.false

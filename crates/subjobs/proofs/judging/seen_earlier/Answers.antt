@@ -1,12 +1,8 @@
 -- `judging::seen_earlier` meets its contract: at each turn what is left to look at decides the whole search.
-use borrow.Author.Rules.{rules}
 use borrow.Author.Tests.{eq-eqb, ne_eqb}
-use Prim.Native.Nat.{ℕ, ◌-◌}
-use mathlib.Core.Bool.{Bool, false, ◌&&◌, and-false}
-use mathlib.Core.List.{List}
-use mathlib.Core.Path.{◌≡◌, refl, sym, ◌∙◌}
-use lib.Dec.{eqb}
-use lib.ListN.{get_or}
+use Rattle.std.proofs.Common.{◌≡◌, ◌-◌, ℕ, Bool, false, List, get_or, sym, ◌∙◌}
+use Rattle.std.specs.Prelude.{◌&&◌, eqb}
+use mathlib.Core.Bool.{and-false}
 use Rattle.lists.proofs.Count.{some_last, some_but_last, some_none}
 use Rattle.subjobs.proofs.judging.seen_earlier.Goals as goal
 use Rattle.subjobs.proofs.judging.seen_earlier.Goals.{else-subtasks-j-via-then-subtasks-j+else-jobs-j, else-subtasks-j-via-else-subtasks-j}
@@ -15,16 +11,12 @@ use Rattle.subjobs.proofs.judging.seen_earlier.Goals.{else-subtasks-j-via-then-s
 abbrev Same : List ℕ → List ℕ → ℕ → ℕ → Bool
 Same jobs subtasks place i = eqb (get_or jobs i 0) (get_or jobs place 0) && eqb (get_or subtasks i 0) (get_or subtasks place 0)
 
-pub loop-j-init : goal.loop-j-init
-loop-j-init c =
-    (search rules, refl)
-
 pub returns-then-jobs-j : goal.returns-then-jobs-j
 returns-then-jobs-j c =
     let L = c.loop-j in
     let a = c.args in
     sym
-    (sym L.invariant.1
+    (sym L.invariant
     ∙ some_last (Same a.jobs.now a.subtasks.now a.place) L.j c.loop-j-test.true (rw (eq-eqb _ _ c.if-jobs-j.true, eq-eqb _ _ c.if-subtasks-j.true)))
 
 pub loop-j-preserved : goal.loop-j-preserved
@@ -39,10 +31,10 @@ loop-j-preserved c =
           rw (ne_eqb _ _ w.if-subtasks-j.false) (and-false (eqb (get_or a.jobs.now (L.j - 1) 0) (get_or a.jobs.now a.place 0)))
     ]
     in
-    (search rules, sym (some_but_last P L.j c.loop-j-test.true no) ∙ L.invariant.1)
+    sym (some_but_last P L.j c.loop-j-test.true no) ∙ L.invariant
 
 pub returns : goal.returns
 returns c =
     let L = c.loop-j in
     let a = c.args in
-    sym (sym L.invariant.1 ∙ some_none (Same a.jobs.now a.subtasks.now a.place) L.j c.loop-j-test.false)
+    sym (sym L.invariant ∙ some_none (Same a.jobs.now a.subtasks.now a.place) L.j c.loop-j-test.false)

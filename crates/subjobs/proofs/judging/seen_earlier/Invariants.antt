@@ -1,10 +1,6 @@
--- `judging::seen_earlier` meets its contract: at each turn what is left to look at decides the whole search.
-use Prim.Native.Nat.{ℕ, ◌≤◌}
-use mathlib.Core.Bool.{Bool, ◌&&◌}
-use mathlib.Core.List.{List}
-use mathlib.Core.Path.{◌≡◌}
-use lib.Dec.{eqb}
-use lib.ListN.{get_or}
+-- `judging::seen_earlier` meets its contract: what is left to look at decides the whole search.
+use Rattle.std.proofs.Common.{◌≡◌, ℕ, Bool, List, get_or}
+use Rattle.std.specs.Prelude.{◌&&◌, eqb}
 use Rattle.lists.specs.Search.{some}
 use Rattle.subjobs.proofs.judging.seen_earlier.Given as goal
 
@@ -13,7 +9,4 @@ abbrev Same : List ℕ → List ℕ → ℕ → ℕ → Bool
 Same jobs subtasks place i = eqb (get_or jobs i 0) (get_or jobs place 0) && eqb (get_or subtasks i 0) (get_or subtasks place 0)
 
 abbrev pub invariant-loop-j : goal.invariant-loop-j
-invariant-loop-j l = (l.j ≤ l.place) × (some (Same l.jobs l.subtasks l.place) l.j ≡ some (Same l.jobs l.subtasks l.place) l.place)
-
-abbrev pub decreases-loop-j : goal.decreases-loop-j
-decreases-loop-j l = l.j
+invariant-loop-j l = some (Same l.jobs l.subtasks l.place) l.j ≡ some (Same l.jobs l.subtasks l.place) l.place
