@@ -9,7 +9,7 @@ use lib.Dec.{eqb}
 use Rattle.lists.proofs.Cases.{split, test, clash, tests}
 use Rattle.lists.proofs.Searched.{onward}
 use Rattle.subjobs.specs.Judging.{Judgement, passed}
-use Rattle.std.specs.Prelude.{Ok, Err}
+use Rattle.std.specs.Prelude.{Err}
 use Rattle.subjobs.specs.declared.Reason.{Reason}
 use Rattle.subjobs.specs.Reasons.{number_of}
 use Rattle.subjobs.specs.Judging.{unless, or_else, refusal_from, first_refusal}

@@ -11,7 +11,7 @@ use Rattle.lists.proofs.Cases.{split, clash, both, tests}
 use Rattle.lists.proofs.Searched.{some_cases}
 use Rattle.subjobs.specs.declared.Field.{Field}
 use Rattle.subjobs.specs.declared.Field.TheVariants.{Release, Execution, Deadline, Critical, Hop}
-use Rattle.std.specs.Prelude.{Ok, Err}
+use Rattle.std.specs.Prelude.{Err}
 use Rattle.subjobs.specs.declared.Reason.{Reason}
 use Rattle.subjobs.specs.declared.Reason.TheVariants.{Lengths, TooMany, Range, Pair}
 use Rattle.subjobs.specs.Sets.{Subjobs, size, job, subtask, release, execution, deadline, critical}
@@ -191,3 +191,22 @@ module _ (s : Subjobs) (others : Bool) where
 
   pub fit_passes : Fit s others → judgement s others ≡ passed
   fit_passes = passed_exactly.1
+
+-- The six lists of a set that passes pass without the further ones.
+pub fit_alone : (s : Subjobs) (others : Bool) → Fit s others → Fit s true
+fit_alone s others f =
+    let l = f.lengths in
+    record {
+      lengths =
+          record {
+            subtasks = l.subtasks;
+            releases = l.releases;
+            executions = l.executions;
+            deadlines = l.deadlines;
+            criticals = l.criticals;
+            further = refl;
+          };
+      few = f.few;
+      ranges = f.ranges;
+      pairs = f.pairs;
+    }

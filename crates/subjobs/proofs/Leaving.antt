@@ -1,7 +1,6 @@
 -- What leaves a function by a `?`.
 use Rattle.std.specs.Prelude.{Result, Err, ◌≡◌}
 use Rattle.std.specs.Result.{IsErrAnd}
-use Rattle.std.proofs.Common.{ap, ◌∙◌}
 use Rattle.std.proofs.lemmas.Result.{err_from_is_err_and}
 
 -- It is the error that came.

@@ -3,6 +3,7 @@
 -- What the judgement says of a set with no search in it is in Faults.
 --
 --   Judgement           == what refusals say: it passes, or the reason why not
+--   judged a            == an answer as a judgement
 --   unless b r          == refused for r unless b holds
 --   or_else a b          == a's refusal, and b's judgement if a passes
 --   first_refusal J n    == the refusal of the smallest place below n that J refuses
@@ -23,6 +24,11 @@ Judgement = Result (Unit {0}) Reason
 
 abbrev pub passed : Judgement
 passed = Ok tt
+
+-- An answer that carries something where it passes, as a judgement.
+abbrev pub judged : {A : Type 0} → Result A Reason → Judgement
+judged (Ok a) = passed
+judged (Err r) = Err r
 
 abbrev pub unless : Bool → Reason → Judgement
 unless b r = cond b passed (Err r)

@@ -1,10 +1,11 @@
 // A set of sub-jobs, six lent lists of 32-bit numbers, and the reasons for which a set is refused.
 #![tactic(auto)]
 
-ghost use Rattle.std.specs.Prelude.{◌≡◌};
+ghost use Rattle.std.specs.Prelude.{◌≡◌, IfOk, IsOk, true};
 ghost use Rattle.subjobs.specs.Reasons.{at, field_number, tell};
 ghost use Rattle.subjobs.specs.Sets.{subjobs_of};
-ghost use Rattle.subjobs.specs.Judging.{one_length, Judges};
+ghost use Rattle.subjobs.specs.Judging.{one_length, judged, Judges};
+ghost use Rattle.subjobs.specs.Faults.{Fit};
 
 mod judging;
 
@@ -19,7 +20,14 @@ pub struct Set<'a> {
     pub criticals: &'a [u32],
 }
 
-impl Set<'_> {
+// A set that passes refusals 1 to 4: `judge` makes one of each set that does.
+#[derive(Clone, Copy)]
+pub struct FitSet<'a> {
+    pub set: Set<'a>,
+    ghost fit: { Fit (subjobs_of set) true },
+}
+
+impl<'a> Set<'a> {
     // Whether all lists are of one length. `others` says it of the call's further lists.
     pub fn one_length(&self, others: bool) -> bool
         ensures { result ≡ one_length (subjobs_of self.now) others }
@@ -33,9 +41,8 @@ impl Set<'_> {
             & others
     }
 
-    // Refusals 1 to 4, in the order of the numbers. `others` says whether the further lists of the call, results
-    // included, are as long as `jobs`.
-    pub fn judge(&self, others: bool) -> Result<(), Reason>
+    // Refusals 1 to 4, in the order of the numbers.
+    fn refusals(&self, others: bool) -> Result<(), Reason>
         ensures { Judges (subjobs_of self.now) others result }
     {
         if !self.one_length(others) {
@@ -51,6 +58,17 @@ impl Set<'_> {
             self.criticals,
         )?;
         judging::pairs(self.jobs, self.subtasks)
+    }
+
+    // The same set, if it passes refusals 1 to 4. `others` says whether the further lists of the call, results included,
+    // are as long as `jobs`.
+    pub fn judge(self, others: bool) -> Result<FitSet<'a>, Reason>
+        ensures judges { Judges (subjobs_of self.entry) others (judged result) }
+        ensures same { IfOk result (λ fit. fit.set ≡ self.entry) }
+        ensures further { IsOk result → others ≡ true }
+    {
+        self.refusals(others)?;
+        Ok(FitSet { set: self })
     }
 }
 

@@ -1,28 +1,16 @@
--- `Set::judge` meets its contract: each return is one of the two tests or what the two searches found.
-use borrow.Author.Tests.{le-leb, lt-leb}
-use Rattle.std.proofs.Common.{sym, ◌∙◌}
-use Rattle.subjobs.specs.Judging.{judgement}
-use Rattle.subjobs.proofs.Fit.{one_length_lem}
+-- `Set::judge` meets its contract: what passes is fit.
+use Rattle.std.proofs.Common.{ap, sym, ◌∙◌}
+use Rattle.subjobs.specs.Judging.{judged}
+use Rattle.subjobs.proofs.Fit.{fit, fit_alone}
 use Rattle.subjobs.proofs.Leaving.{leaves}
 use Rattle.subjobs.proofs.Set.judge.Goals as goal
 
-pub returns-then-not-one_length : goal.returns-then-not-one_length
-unfolding judgement
-returns-then-not-one_length c = rw (sym c.one_length.ensures ∙ c.if-not-one_length.true)
+pub returns-in_err-refusals-clause-judges : goal.returns-in_err-refusals-clause-judges
+returns-in_err-refusals-clause-judges c =
+    ap judged (leaves _ c.in_err-refusals.field-0.0 c.from_residual.ensures.1) ∙ sym c.in_err-refusals.was ∙ c.refusals.ensures
 
-pub returns-then-self-gt128 : goal.returns-then-self-gt128
-unfolding judgement
-returns-then-self-gt128 c = rw (sym c.one_length.ensures ∙ c.if-not-one_length.false, lt-leb _ _ c.if-self-gt128.true)
+pub invariant_of-result : goal.invariant_of-result
+invariant_of-result c = record { fit = fit_alone _ _ (fit _ _ (sym c.refusals.ensures ∙ c.in_ok-refusals.was)) }
 
-pub returns-in_err-ranges : goal.returns-in_err-ranges
-unfolding judgement
-returns-in_err-ranges c =
-    let e = sym c.one_length.ensures ∙ c.if-not-one_length.false in
-    leaves _ c.in_err-ranges.field-0.0 c.from_residual.ensures.1
-    ∙ rw (e, le-leb _ _ c.if-self-gt128.false, ← (one_length_lem _ _ e).releases, ← c.ranges-2.ensures, c.in_err-ranges.was)
-
-pub returns : goal.returns
-unfolding judgement
-returns c =
-    let e = sym c.one_length.ensures ∙ c.if-not-one_length.false in
-    rw (e, le-leb _ _ c.if-self-gt128.false, ← c.pairs.ensures, ← (one_length_lem _ _ e).releases, ← c.ranges-2.ensures, c.in_ok-ranges.was)
+pub returns-clause-further : goal.returns-clause-further
+returns-clause-further c h = (fit _ _ (sym c.refusals.ensures ∙ c.in_ok-refusals.was)).lengths.further
