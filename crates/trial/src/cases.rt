@@ -1,298 +1,202 @@
-// The cases, one after another. A case is the number of its kind (1 assign, 2 simulate, 3 check,
-// 4 table, 5 critical times from a graph, 6 room) and what the entry is called with; any other
-// number ends the text.
-use crate::{printing, reading, rooms, saying};
+// The cases, one after another. A case is the number of its kind and what the entry is called with; a number that is no
+// kind's ends the text.
+use crate::printing::{Listed, Refusal};
+use crate::reading::{Lists, Reader};
 use std::io;
+use subjobs::Judgement;
 
-// Every case of a text. A case takes at least a byte; the test for one that does not is what shows
-// that the program ends.
-pub(crate) fn all(rt: &HostRuntime, text: &[u8]) -> io::Result<()> {
-    let mut at = 0;
-    while at < text.len() {
-        let before = at;
-        one(rt, text, &mut at)?;
-        if at <= before {
-            return Ok(());
+// The longest list of a set's or a graph's places that is asked. A longer list ends the text.
+const PLACES: usize = 160;
+
+// The same of a graph's arcs.
+const ARCS: usize = 1_100;
+
+// The same of a room's places.
+const ROOM_PLACES: usize = 4_200;
+
+// The same of a room's sets.
+const ROOM_SETS: usize = 48;
+
+// The entry that a case calls.
+#[derive(Clone, Copy, Debug, PartialEq, Eq)]
+enum Kind {
+    Assign,
+    Simulate,
+    Check,
+    Table,
+    Critical,
+    Room,
+}
+
+impl Kind {
+    // The kind with this number, if there is one.
+    fn numbered(number: u64) -> Option<Kind> {
+        match number {
+            1 => Some(Kind::Assign),
+            2 => Some(Kind::Simulate),
+            3 => Some(Kind::Check),
+            4 => Some(Kind::Table),
+            5 => Some(Kind::Critical),
+            6 => Some(Kind::Room),
+            _ => None,
         }
+    }
+}
+
+// Every case of a text. A case takes at least a byte, so there are no more cases than bytes: to go over the bytes is what
+// shows that the program ends. Behind the text the number is 0, no kind's.
+pub(crate) fn all(rt: &HostRuntime, text: &[u8]) -> io::Result<()> {
+    let mut reader = Reader::new(text, rt.alloc());
+    for _ in text {
+        let Some(kind) = Kind::numbered(reader.number()) else {
+            break;
+        };
+        one(rt, kind, &mut reader)?;
     }
     Ok(())
 }
 
-// The case that stands in the text at `at`, which goes on behind it.
-fn one(rt: &HostRuntime, text: &[u8], at: &mut usize) -> io::Result<()> {
-    let kind = reading::number(text, at);
+// A case whose kind is read.
+fn one(rt: &HostRuntime, kind: Kind, reader: &mut Reader<'_>) -> io::Result<()> {
     match kind {
-        1 | 2 | 3 => of_a_set(rt, kind, text, at),
-        4 => table(rt, text, at),
-        5 => critical(rt, text, at),
-        6 => rooms::room(rt, text, at),
-        _ => {
-            *at = text.len();
-            Ok(())
-        }
+        Kind::Assign => assign(rt, reader),
+        Kind::Simulate => simulate(rt, reader),
+        Kind::Check => check(rt, reader),
+        Kind::Table => table(rt, reader),
+        Kind::Critical => critical(rt, reader),
+        Kind::Room => room(rt, reader),
     }
 }
 
-// A case of an entry that takes the six lists of a set. They are read here, the others by kind.
-fn of_a_set(rt: &HostRuntime, kind: u64, text: &[u8], at: &mut usize) -> io::Result<()> {
-    let mut jobs = [0u32; 160];
-    let mut subtasks = [0u32; 160];
-    let mut releases = [0u32; 160];
-    let mut executions = [0u32; 160];
-    let mut deadlines = [0u32; 160];
-    let mut criticals = [0u32; 160];
-    let a = reading::list(text, at, &mut jobs);
-    let b = reading::list(text, at, &mut subtasks);
-    let c = reading::list(text, at, &mut releases);
-    let d = reading::list(text, at, &mut executions);
-    let e = reading::list(text, at, &mut deadlines);
-    let f = reading::list(text, at, &mut criticals);
-    by_kind(
-        rt,
-        kind,
-        text,
-        at,
-        &jobs[..a],
-        &subtasks[..b],
-        &releases[..c],
-        &executions[..d],
-        &deadlines[..e],
-        &criticals[..f],
-    )
-}
-
-// A case whose set is read: a run has three further lists, the others one.
-fn by_kind(
-    rt: &HostRuntime,
-    kind: u64,
-    text: &[u8],
-    at: &mut usize,
-    jobs: &[u32],
-    subtasks: &[u32],
-    releases: &[u32],
-    executions: &[u32],
-    deadlines: &[u32],
-    criticals: &[u32],
-) -> io::Result<()> {
-    if kind == 2 {
-        of_a_run(
-            rt, text, at, jobs, subtasks, releases, executions, deadlines, criticals,
-        )
-    } else {
-        of_one_list(
-            rt, kind, text, at, jobs, subtasks, releases, executions, deadlines, criticals,
-        )
-    }
-}
-
-// The further list of an assignment is the results before, that of a check the proposed deadlines.
-fn of_one_list(
-    rt: &HostRuntime,
-    kind: u64,
-    text: &[u8],
-    at: &mut usize,
-    jobs: &[u32],
-    subtasks: &[u32],
-    releases: &[u32],
-    executions: &[u32],
-    deadlines: &[u32],
-    criticals: &[u32],
-) -> io::Result<()> {
-    let mut list = [0u32; 160];
-    let n = reading::list(text, at, &mut list);
-    if kind == 1 {
-        assign(
-            rt,
-            jobs,
-            subtasks,
-            releases,
-            executions,
-            deadlines,
-            criticals,
-            &mut list[..n],
-        )
-    } else {
-        check(
-            rt,
-            jobs,
-            subtasks,
-            releases,
-            executions,
-            deadlines,
-            criticals,
-            &list[..n],
-        )
-    }
-}
-
-// A run's further lists are local deadlines, asks and the finishes before; then come the totals before.
-fn of_a_run(
-    rt: &HostRuntime,
-    text: &[u8],
-    at: &mut usize,
-    jobs: &[u32],
-    subtasks: &[u32],
-    releases: &[u32],
-    executions: &[u32],
-    deadlines: &[u32],
-    criticals: &[u32],
-) -> io::Result<()> {
-    let mut local = [0u32; 160];
-    let mut asks = [0u32; 160];
-    let mut finishes = [0u32; 160];
-    let a = reading::list(text, at, &mut local);
-    let b = reading::list(text, at, &mut asks);
-    let c = reading::list(text, at, &mut finishes);
-    let busy = reading::number(text, at);
-    let idle = reading::number(text, at);
-    let totals = edf::Totals { busy, idle };
-    simulate(
-        rt,
-        jobs,
-        subtasks,
-        releases,
-        executions,
-        deadlines,
-        criticals,
-        &local[..a],
-        &asks[..b],
-        &mut finishes[..c],
-        totals,
-    )
-}
-
-// The assignment: its answer, and the results after the call.
-fn assign(
-    rt: &HostRuntime,
-    jobs: &[u32],
-    subtasks: &[u32],
-    releases: &[u32],
-    executions: &[u32],
-    deadlines: &[u32],
-    criticals: &[u32],
-    results: &mut [u32],
-) -> io::Result<()> {
+// The assignment: its answer, and the results after the call. The further list is the results before.
+fn assign(rt: &HostRuntime, reader: &mut Reader<'_>) -> io::Result<()> {
+    let set = Lists::read(reader, PLACES)?;
+    let mut results = reader.list(PLACES)?;
     match olda::assign(
-        jobs, subtasks, releases, executions, deadlines, criticals, results,
+        &set.jobs,
+        &set.subtasks,
+        &set.releases,
+        &set.executions,
+        &set.deadlines,
+        &set.criticals,
+        &mut results,
     ) {
-        olda::Answer::Placed(report) => {
-            saying::say(rt, b"placed")?;
-            printing::signed(rt, report.slack)?;
-            printing::number(rt, report.place as u64)?;
-        }
-        olda::Answer::Nothing => saying::say(rt, b"nothing")?,
-        olda::Answer::Refused(reason) => printing::refusal(rt, reason)?,
+        olda::Answer::Placed(report) => print!(rt; "placed {} {}", report.slack, report.place)?,
+        olda::Answer::Nothing => print!(rt; "nothing")?,
+        olda::Answer::Refused(reason) => rt.print(Refusal::from(reason))?,
     }
-    printing::list(rt, results)
+    println!(rt; " {}", Listed(&results))
 }
 
-// The simulator: its answer, and the totals and finishes after the call.
-fn simulate(
-    rt: &HostRuntime,
-    jobs: &[u32],
-    subtasks: &[u32],
-    releases: &[u32],
-    executions: &[u32],
-    deadlines: &[u32],
-    criticals: &[u32],
-    local: &[u32],
-    asks: &[u32],
-    finishes: &mut [u32],
-    totals: edf::Totals,
-) -> io::Result<()> {
+// The simulator: its answer, and the totals and finishes after the call. A run's further lists are local deadlines, asks
+// and the finishes before; then come the totals before.
+fn simulate(rt: &HostRuntime, reader: &mut Reader<'_>) -> io::Result<()> {
+    let set = Lists::read(reader, PLACES)?;
+    let local = reader.list(PLACES)?;
+    let asks = reader.list(PLACES)?;
+    let mut finishes = reader.list(PLACES)?;
+    let totals = edf::Totals {
+        busy: reader.number(),
+        idle: reader.number(),
+    };
     let run = edf::simulate(
-        jobs, subtasks, releases, executions, deadlines, criticals, local, asks, finishes, totals,
+        &set.jobs,
+        &set.subtasks,
+        &set.releases,
+        &set.executions,
+        &set.deadlines,
+        &set.criticals,
+        &local,
+        &asks,
+        &mut finishes,
+        totals,
     );
-    let answer = run.answer;
-    match answer {
-        edf::Answer::Ran(report) => {
-            saying::say(rt, b"ran")?;
-            printing::number(rt, saying::wide(report.end))?;
-        }
-        edf::Answer::Refused(reason) => printing::refusal(rt, reason)?,
+    match run.answer {
+        edf::Answer::Ran(report) => print!(rt; "ran {}", report.end)?,
+        edf::Answer::Refused(reason) => rt.print(Refusal::from(reason))?,
     }
-    saying::say(rt, b" :")?;
-    printing::number(rt, run.totals.busy)?;
-    printing::number(rt, run.totals.idle)?;
-    printing::list(rt, finishes)
-}
-
-// The checker: its answer alone.
-fn check(
-    rt: &HostRuntime,
-    jobs: &[u32],
-    subtasks: &[u32],
-    releases: &[u32],
-    executions: &[u32],
-    deadlines: &[u32],
-    criticals: &[u32],
-    proposed: &[u32],
-) -> io::Result<()> {
-    match checker::check(
-        jobs, subtasks, releases, executions, deadlines, criticals, proposed,
-    ) {
-        checker::Answer::Accepted => saying::say(rt, b"accepted")?,
-        checker::Answer::Refused(reason) => printing::refusal(rt, reason)?,
-    }
-    saying::say(rt, b"\n")
-}
-
-// The table: the length of a text and the text, which one byte follows. The output is printed whole.
-fn table(rt: &HostRuntime, text: &[u8], at: &mut usize) -> io::Result<()> {
-    let length = reading::number(text, at) as usize;
-    let start = *at;
-    *at = text.len();
-    if text.len() < start {
-        return Ok(());
-    }
-    if text.len() - start <= length {
-        return Ok(());
-    }
-    let end = start + length;
-    *at = end + 1;
-    output(rt, &text[start..end])
-}
-
-fn output(rt: &HostRuntime, text: &[u8]) -> io::Result<()> {
-    let mut out = [0u8; 7203];
-    let n = table::table(text, &mut out);
-    printing::bytes(rt, &out[..n])
-}
-
-// Critical times from a graph: its answer, and the results after the call. Executions, the three
-// lists of the arcs and the results before are read.
-fn critical(rt: &HostRuntime, text: &[u8], at: &mut usize) -> io::Result<()> {
-    let mut executions = [0u32; 160];
-    let mut befores = [0u32; 1_100];
-    let mut afters = [0u32; 1_100];
-    let mut hops = [0u32; 1_100];
-    let mut results = [0u32; 160];
-    let a = reading::list(text, at, &mut executions);
-    let b = reading::list(text, at, &mut befores);
-    let c = reading::list(text, at, &mut afters);
-    let d = reading::list(text, at, &mut hops);
-    let e = reading::list(text, at, &mut results);
-    found(
-        rt,
-        &executions[..a],
-        &befores[..b],
-        &afters[..c],
-        &hops[..d],
-        &mut results[..e],
+    println!(rt;
+        " : {} {} {}",
+        run.totals.busy,
+        run.totals.idle,
+        Listed(&finishes)
     )
 }
 
-fn found(
-    rt: &HostRuntime,
-    executions: &[u32],
-    befores: &[u32],
-    afters: &[u32],
-    hops: &[u32],
-    results: &mut [u32],
-) -> io::Result<()> {
-    match graph::critical(executions, befores, afters, hops, results) {
-        subjobs::Judgement::Passed => saying::say(rt, b"found")?,
-        subjobs::Judgement::Refused(reason) => printing::refusal(rt, reason)?,
+// The checker: its answer alone. The further list is the proposed deadlines.
+fn check(rt: &HostRuntime, reader: &mut Reader<'_>) -> io::Result<()> {
+    let set = Lists::read(reader, PLACES)?;
+    let proposed = reader.list(PLACES)?;
+    match checker::check(
+        &set.jobs,
+        &set.subtasks,
+        &set.releases,
+        &set.executions,
+        &set.deadlines,
+        &set.criticals,
+        &proposed,
+    ) {
+        checker::Answer::Accepted => println!(rt; "accepted"),
+        checker::Answer::Refused(reason) => rt.println(Refusal::from(reason)),
     }
-    printing::list(rt, results)
+}
+
+// The table: the count of the bytes of the output, and the output.
+fn table(rt: &HostRuntime, reader: &mut Reader<'_>) -> io::Result<()> {
+    let Some(text) = reader.text() else {
+        return Ok(());
+    };
+    // Kept so: `table::table` writes to an array of this length.
+    let mut out = [0u8; 7203];
+    let length = table::table(text, &mut out);
+    println!(rt; "{length}")?;
+    rt.write_all(&out[..length])?;
+    println!(rt)
+}
+
+// Critical times from a graph: its answer, and the results after the call. Executions, the three lists of the arcs and
+// the results before are read.
+fn critical(rt: &HostRuntime, reader: &mut Reader<'_>) -> io::Result<()> {
+    let executions = reader.list(PLACES)?;
+    let befores = reader.list(ARCS)?;
+    let afters = reader.list(ARCS)?;
+    let hops = reader.list(ARCS)?;
+    let mut results = reader.list(PLACES)?;
+    let judgement = graph::critical(&executions, &befores, &afters, &hops, &mut results);
+    judged(rt, judgement, "found")?;
+    println!(rt; " {}", Listed(&results))
+}
+
+// The room: its answer, and deadlines, numbers and places after the call. Beside the six lists the lengths of the sets,
+// and deadlines, numbers and places before it are read.
+fn room(rt: &HostRuntime, reader: &mut Reader<'_>) -> io::Result<()> {
+    let sets = Lists::read(reader, ROOM_PLACES)?;
+    let lengths = reader.list(ROOM_SETS)?;
+    let mut results = reader.list(ROOM_PLACES)?;
+    let mut numbers = reader.list(ROOM_SETS)?;
+    let mut places = reader.list(ROOM_SETS)?;
+    let judgement = room::assign(
+        &sets.jobs,
+        &sets.subtasks,
+        &sets.releases,
+        &sets.executions,
+        &sets.deadlines,
+        &sets.criticals,
+        &lengths,
+        &mut results,
+        &mut numbers,
+        &mut places,
+    );
+    judged(rt, judgement, "assigned")?;
+    println!(rt; " {}", Listed(&results))?;
+    println!(rt; " {}", Listed(&numbers))?;
+    println!(rt; " {}", Listed(&places))
+}
+
+// What is said of a graph or a room: that it passed, or why it is refused.
+fn judged(rt: &HostRuntime, judgement: Judgement, passed: &str) -> io::Result<()> {
+    match judgement {
+        Judgement::Passed => rt.print(passed),
+        Judgement::Refused(reason) => rt.print(Refusal::from(reason)),
+    }
 }

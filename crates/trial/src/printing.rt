@@ -1,47 +1,40 @@
-// Answers as text on standard output.
-use crate::saying;
-use crate::saying::{say, wide};
-use std::io;
-use subjobs::Reason;
+// Lists and refusals as the trial prints them.
+use std::fmt;
+use subjobs::{Reason, Told};
 
-// A space and a number.
-pub(crate) fn number(rt: &HostRuntime, n: u64) -> io::Result<()> {
-    say(rt, b" ")?;
-    saying::number(rt, n)
-}
+// The numbers of a list behind a colon.
+#[derive(Drop)]
+pub(crate) struct Listed<'a>(pub(crate) &'a [u32]);
 
-// A space and a signed number.
-pub(crate) fn signed(rt: &HostRuntime, x: i64) -> io::Result<()> {
-    say(rt, b" ")?;
-    saying::signed(rt, x)
-}
-
-// A colon and the numbers of a list, which end a line.
-pub(crate) fn list(rt: &HostRuntime, numbers: &[u32]) -> io::Result<()> {
-    say(rt, b" :")?;
-    saying::list(rt, numbers)
-}
-
-// The count of the bytes of a text, and these bytes, each with a line end behind it.
-pub(crate) fn bytes(rt: &HostRuntime, text: &[u8]) -> io::Result<()> {
-    saying::number(rt, text.len() as u64)?;
-    say(rt, b"\n")?;
-    say(rt, text)?;
-    say(rt, b"\n")
+impl fmt::Display for Listed<'_> {
+    fn fmt<W: fmt::Write>(&self, f: &mut fmt::Formatter<W>) -> fmt::Result {
+        write!(f, ":")?;
+        for number in self.0 {
+            write!(f, " {number}")?;
+        }
+        Ok(())
+    }
 }
 
 // A refusal: its number and place, for number 3 the field, for number 5 completion and bound.
-pub(crate) fn refusal(rt: &HostRuntime, reason: Reason) -> io::Result<()> {
-    let told = subjobs::tell(reason);
-    say(rt, b"refused")?;
-    number(rt, wide(told.number))?;
-    number(rt, told.place as u64)?;
-    if told.number == 3 {
-        number(rt, wide(told.field))?;
+#[derive(Drop)]
+pub(crate) struct Refusal(Told);
+
+impl From<Reason> for Refusal {
+    fn from(reason: Reason) -> Refusal {
+        Refusal(subjobs::tell(reason))
     }
-    if told.number == 5 {
-        number(rt, wide(told.completion))?;
-        signed(rt, told.bound)?;
+}
+
+impl fmt::Display for Refusal {
+    fn fmt<W: fmt::Write>(&self, f: &mut fmt::Formatter<W>) -> fmt::Result {
+        let told = &self.0;
+        write!(f, "refused {} {}", told.number, told.place)?;
+        // Kept so: `subjobs::tell` takes the reason, and it is by their numbers that `Told` gives details.
+        match told.number {
+            3 => write!(f, " {}", told.field),
+            5 => write!(f, " {} {}", told.completion, told.bound),
+            _ => Ok(()),
+        }
     }
-    Ok(())
 }

@@ -1,83 +1,89 @@
 // Numbers and lists of numbers in decimal text. Where the text is not as it should be, or has ended,
 // numbers are 0 and lists are empty: a case of kind 0 ends the program.
-ghost use Rattle.std.specs.Prelude.{◌<◌, ◌≤◌, ◌≡◌, IfOk, length, take};
+ghost use Rattle.std.specs.Prelude.{◌≤◌, IfOk, vec_len};
 
-use std::io::{self, Read};
+use std::alloc::{AllocError, Global};
+use std::slice::Iter;
 
-// Reads standard input to its end or until the room is full, and answers how many bytes came; or the error of a read
-// that failed.
-pub(crate) fn fill(rt: &HostRuntime, room: &mut [u8]) -> io::Result<usize>
-    ensures { IfOk result (λ n. n ≤ length room.new) }
-{
-    let mut input = rt.stdin();
-    let mut n = 0;
-    while n < room.len() {
-        let more = input.read(&mut room[n..])?;
-        if more == 0 {
-            return Ok(n);
+// A text that is read from front to back, and the allocator of its lists.
+#[derive(Drop)]
+pub(crate) struct Reader<'a> {
+    bytes: Iter<'a, u8>,
+    alloc: Global,
+}
+
+impl<'a> Reader<'a> {
+    // Begins at the front of a text.
+    pub(crate) fn new(text: &'a [u8], alloc: Global) -> Reader<'a> {
+        Reader {
+            bytes: text.iter(),
+            alloc,
         }
-        n += more;
     }
-    Ok(n)
-}
 
-// The number that stands in the text at `at`, which goes on behind the one byte that follows it.
-pub(crate) fn number(text: &[u8], at: &mut usize) -> u64 {
-    let mut value = 0;
-    while *at < text.len() {
-        let figure = digit(text[*at]);
-        *at += 1;
-        if 9 < figure {
-            return value;
+    // The number that stands next, read with the one byte that follows it; the largest where that is too large.
+    pub(crate) fn number(&mut self) -> u64 {
+        self.bytes
+            .by_ref()
+            .map_while(|byte| char::from(*byte).to_digit(10))
+            .fold(0u64, |value, digit| {
+                value.saturating_mul(10).saturating_add(u64::from(digit))
+            })
+    }
+
+    // The list that stands next, its length and then its numbers. One longer than `limit` ends the text.
+    pub(crate) fn list(&mut self, limit: usize) -> Result<Vec<u32>, AllocError>
+        ensures { IfOk result (λ list. vec_len list ≤ limit) }
+    {
+        let count = self.number() as usize;
+        if limit < count {
+            self.end();
+            return Ok(Vec::new(self.alloc));
         }
-        value = appended(value, figure);
+        let alloc = self.alloc;
+        (0..count)
+            .map(|_| u32::try_from(self.number()).unwrap_or(u32::MAX))
+            .collect(alloc)
     }
-    value
+
+    // The text that stands next, its length before it and one byte behind it. One that is cut off ends the text.
+    pub(crate) fn text(&mut self) -> Option<&'a [u8]> {
+        let length = self.number() as usize;
+        let Some((text, [_, behind @ ..])) = self.bytes.as_slice().split_at_checked(length) else {
+            self.end();
+            return None;
+        };
+        self.bytes = behind.iter();
+        Some(text)
+    }
+
+    // Nothing more stands in the text.
+    fn end(&mut self) {
+        self.bytes = [].iter();
+    }
 }
 
-// The list that stands in the text at `at`, its length and then its numbers: how many it has. One
-// that `into` cannot hold ends the text.
-pub(crate) fn list(text: &[u8], at: &mut usize, into: &mut [u32]) -> usize
-    ensures { (result ≤ length into.new) × (result ≡ length (take result into.new)) }
-{
-    let count = number(text, at) as usize;
-    if into.len() < count {
-        *at = text.len();
-        return 0;
-    }
-    let mut i = 0;
-    while i < count {
-        into[i] = narrow(number(text, at));
-        i += 1;
-    }
-    count
+// The six lists of a set of sub-jobs.
+#[derive(Drop)]
+pub(crate) struct Lists {
+    pub(crate) jobs: Vec<u32>,
+    pub(crate) subtasks: Vec<u32>,
+    pub(crate) releases: Vec<u32>,
+    pub(crate) executions: Vec<u32>,
+    pub(crate) deadlines: Vec<u32>,
+    pub(crate) criticals: Vec<u32>,
 }
 
-// What a decimal digit stands for; 10 for every other byte.
-fn digit(byte: u8) -> u64 {
-    if byte < b'0' {
-        return 10;
+impl Lists {
+    // The six lists that stand next, each of at most `limit` numbers.
+    pub(crate) fn read(reader: &mut Reader<'_>, limit: usize) -> Result<Lists, AllocError> {
+        Ok(Lists {
+            jobs: reader.list(limit)?,
+            subtasks: reader.list(limit)?,
+            releases: reader.list(limit)?,
+            executions: reader.list(limit)?,
+            deadlines: reader.list(limit)?,
+            criticals: reader.list(limit)?,
+        })
     }
-    if b'9' < byte {
-        return 10;
-    }
-    (byte - b'0') as u64
-}
-
-// A number with one more digit behind it, or the largest where that is too large.
-fn appended(value: u64, figure: u64) -> u64
-    requires { figure < 10 }
-{
-    if (u64::MAX - figure) / 10 < value {
-        return u64::MAX;
-    }
-    value * 10 + figure
-}
-
-// A number in 32 bits, or the largest of these where it is too large.
-fn narrow(x: u64) -> u32 {
-    if 4_294_967_295 < x {
-        return 4_294_967_295;
-    }
-    x as u32
 }

@@ -1,6 +1,0 @@
--- Case after case: the measure is what is left of the text.
-use Rattle.std.proofs.Common.{length, ◌-◌}
-use Rattle.trial.proofs.cases.all.Given as goal
-
-abbrev pub decreases-loop-at : goal.decreases-loop-at
-decreases-loop-at l = length l.text - l.at

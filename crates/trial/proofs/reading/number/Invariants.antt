@@ -1,6 +1,0 @@
--- A number is read byte by byte: the measure is what is left of the text.
-use Rattle.std.proofs.Common.{length, ◌-◌}
-use Rattle.trial.proofs.reading.number.Given as goal
-
-abbrev pub decreases-loop-at : goal.decreases-loop-at
-decreases-loop-at l = length l.text - l.at

@@ -1,9 +1,0 @@
--- `list` is safe and ends: the place stays within the list.
-use Rattle.std.proofs.Common.{length, ◌-◌, ◌≤◌}
-use Rattle.trial.proofs.saying.list.Given as goal
-
-abbrev pub invariant-loop-i : goal.invariant-loop-i
-invariant-loop-i l = l.i ≤ length l.numbers
-
-abbrev pub decreases-loop-i : goal.decreases-loop-i
-decreases-loop-i l = length l.numbers - l.i
