@@ -7,8 +7,8 @@ use native.Mathlib.Omega.{arith}
 use borrow.Author.Tests.{lt-ltb, le-ltb, lt-leb, leb-true, ltb-true, ltb-false}
 use lib.Dec.{ltb, leb}
 use lib.ListN.{length, drop, length-append, length-drop, drop_of_length-le}
+use Rattle.std.proofs.Common.{Some, None}
 use Rattle.lists.proofs.Cases.{split, test, tests}
-use Rattle.text.specs.declared.reading.End.TheVariants as end
 use Rattle.text.specs.Reading.{Fields}
 use Rattle.text.proofs.Grammar.{record_read, record_cases, first_some, line_read, line_cases}
 use Rattle.subjobs.specs.Reasons.{place_of}
@@ -16,8 +16,8 @@ use Rattle.table.specs.Format.{header, fields, Rows, Parsed, records, refused, R
 use Rattle.table.specs.Reading.{records_from, read}
 use Rattle.table.proofs.Filling.{records_end}
 
-never : {X : Type 0} {j : ℕ} → end.Missing ≡ end.Next j → X
-never e = let z : ◌≡◌ {A = ℕ} 0 1 = cc in absurd (omega arith)
+never : {X : Type 0} {j : ℕ} → None ≡ Some j → X
+never e = cc
 
 -- Something is left to read, or nothing.
 some_left : (text : List ℕ) (i : ℕ) → i < length text → drop i text ≢ []

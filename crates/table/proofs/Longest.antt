@@ -21,7 +21,8 @@ use Rattle.table.specs.Format.{Parsed, records, refused}
 use Rattle.table.specs.Reading.{read, set_of}
 use Rattle.table.specs.Writing.{printed_line, refusal}
 use Rattle.table.specs.Answers.{line_at, joined, accepted, verdict_of, tabled, on_parsed, answer, Tables, Counts}
-use Rattle.table.proofs.Printing.{numbers, line_of_lem, refusal_is}
+use Rattle.table.specs.Stores.{numbers_at}
+use Rattle.table.proofs.Printing.{line_at_is, refusal_is}
 use Rattle.table.proofs.Outcomes.{Sound, in_time, accepted_sound}
 use Rattle.table.proofs.Exactly.{Within, read_within}
 
@@ -42,7 +43,7 @@ accepted-length s ds w =
     omega (
       arith,
       joined_length (line_at s ds fs) 0 (size s)
-          (λ i l. rw (line_of_lem s ds fs i (in_time s ds w i (omega arith))) (line_length (numbers s ds fs i))),
+          (λ i l. rw (line_at_is s ds fs i (in_time s ds w i (omega arith))) (line_length (numbers_at s ds fs i))),
     )
 
 tabled-length : (s : Subjobs) → size s ≤ 128 → length (tabled s) ≤ 7_203

@@ -10,7 +10,7 @@ use Rattle.text.specs.Lines.{cut, lines_of}
 use Rattle.text.proofs.Printed.{IsLine, line_first, line_line}
 use Rattle.table.specs.Writing.{out_header}
 use Rattle.table.specs.Answers.{line_at, joined, accepted}
-use Rattle.table.proofs.Printing.{line_of_lem}
+use Rattle.table.proofs.Printing.{line_at_is}
 use Rattle.table.proofs.Outcomes.{Sound, in_time}
 
 joined_lines :
@@ -31,4 +31,4 @@ accepted_lines s ds w =
     let fs = (ticks.run s ds s.executions).finishes in
     ap (λ (ls : List (List ℕ)). out_header ∷ ls)
     (joined_lines (line_at s ds fs) 0 (size s)
-    (λ i l. rw (line_of_lem s ds fs i (in_time s ds w i (omega arith))) (line_line _ _)))
+    (λ i l. rw (line_at_is s ds fs i (in_time s ds w i (omega arith))) (line_line _ _)))

@@ -2,11 +2,10 @@
 use Prim.Native.Nat.{ℕ, ◌<◌, ◌≤◌}
 use mathlib.Core.Bool.{true}
 use mathlib.Core.List.{List, ◌++◌}
-use mathlib.Core.Path.{◌≡◌, refl, sym, ap, ◌∙◌}
+use mathlib.Core.Path.{◌≡◌, refl, sym, ◌∙◌}
 use native.Mathlib.Omega.{arith}
 use borrow.Author.Tests.{eq-eqb}
 use lib.ListN.{length, replicate, length-replicate}
-use lib.Seq.{length-take-le}
 use Rattle.lists.specs.Places.{places}
 use Rattle.lists.proofs.Members.{in_places}
 use Rattle.subjobs.specs.declared.Reason.{Reason}
@@ -32,8 +31,8 @@ use Rattle.ticks.proofs.Ticks as run
 use Rattle.edf.proofs.Fresh.{fresh_finishes}
 use Rattle.table.specs.Writing.{out_header, refusal}
 use Rattle.table.specs.Answers.{line_at, joined, accepted, verdict_of, tabled}
-use Rattle.table.specs.Stores.{set_in, PrintableAt, Roomy}
-use Rattle.table.proofs.Printing.{InTime, in_time_at}
+use Rattle.table.specs.Stores.{PrintableAt}
+use Rattle.table.proofs.Printing.{InTime}
 
 -- A set that refusals 1 to 4 pass, with the deadlines that the method gives it.
 pub record Sound (s : Subjobs) (ds : List ℕ) : Type 0 where
@@ -113,56 +112,51 @@ module _ (s : Subjobs) where
   tabled-accepted e = rw e
 
 verdict_refused : (a : Answer) (r : Reason) → verdict_of a ≡ judgement.Refused r → a ≡ olda-answer.Refused r
-verdict_refused (olda-answer.Placed x) r e = let z : ◌≡◌ {A = ℕ} 0 1 = cc in absurd (omega arith)
-verdict_refused olda-answer.Nothing r e = let z : ◌≡◌ {A = ℕ} 0 1 = cc in absurd (omega arith)
-verdict_refused (olda-answer.Refused x) r e = let q : x ≡ r = cc in ap olda-answer.Refused q
+verdict_refused (olda-answer.Placed x) r e = cc
+verdict_refused olda-answer.Nothing r e = cc
+verdict_refused (olda-answer.Refused x) r e = cc
 
--- The set in lists with room for its deadlines and finishes: what the code finds is the output that is told.
-module _ {l ds fs : List ℕ} {n : ℕ} (r : Roomy l n ds fs) where
-  size_in : size (set_in l n) ≡ n
-  size_in = length-take-le n l (omega (arith, r.lists.few, r.lists.room))
+-- With room for its deadlines and finishes, what the code finds of a set is the output that is told.
+module _ (s : Subjobs) (ds : List ℕ) (l : length ds ≡ size s) where
+  told : (j : Judgement) → verdict_of (olda.answer s (length ds)) ≡ j → verdict_of (olda.answer s (size s)) ≡ j
+  told j e = rw l at e
 
-  local_size : length ds ≡ size (set_in l n)
-  local_size = r.deadlines ∙ sym size_in
-
-  told : (j : Judgement) → verdict_of (olda.answer (set_in l n) (length ds)) ≡ j → verdict_of (olda.answer (set_in l n) (size (set_in l n))) ≡ j
-  told j e = rw local_size at e
-
-  module _ (q : Reason) (e : verdict_of (olda.answer (set_in l n) (length ds)) ≡ judgement.Refused q) where
+  module _ (q : Reason) (e : verdict_of (olda.answer s (length ds)) ≡ judgement.Refused q) where
     -- A refusal names a place of the set.
-    pub refused_place : place_of q ≤ 129
-    refused_place = omega (arith, refused_within (set_in l n) (length ds) q (verdict_refused (olda.answer (set_in l n) (length ds)) q e))
+    pub refused_place : size s ≤ 128 → place_of q ≤ 129
+    refused_place m = omega (arith, refused_within s (length ds) q (verdict_refused (olda.answer s (length ds)) q e))
 
-    pub refused_text : tabled (set_in l n) ≡ refusal q
-    refused_text = tabled_refused (set_in l n) q (told (judgement.Refused q) e)
+    pub refused_text : tabled s ≡ refusal q
+    refused_text = tabled_refused s q (told (judgement.Refused q) e)
 
-  module _ (e : verdict_of (olda.answer (set_in l n) (length ds)) ≡ judgement.Passed) where
+  module _ (fs : List ℕ) (f : length fs ≡ size s) (e : verdict_of (olda.answer s (length ds)) ≡ judgement.Passed) where
     abbrev Given : List ℕ
-    Given = olda.results (set_in l n) ds
+    Given = olda.results s ds
 
     abbrev Finished : List ℕ
-    Finished = edf.finishes (set_in l n) Given (set_in l n).executions fs (record { busy = 0; idle = 0 })
+    Finished = edf.finishes s Given s.executions fs (record { busy = 0; idle = 0 })
 
-    sound : Sound (set_in l n) Given
-    sound = accepted_sound (set_in l n) ds local_size (told judgement.Passed e)
+    sound : Sound s Given
+    sound = accepted_sound s ds l (told judgement.Passed e)
 
-    finished : Finished ≡ (ticks.run (set_in l n) Given (set_in l n).executions).finishes
-    finished = run_finishes (set_in l n) Given sound fs (r.finishes ∙ sym size_in)
+    finished : Finished ≡ (ticks.run s Given s.executions).finishes
+    finished = run_finishes s Given sound fs f
 
-    pub accepted_printable : (i : ℕ) → i < n → PrintableAt l Given Finished i
+    pub accepted_printable : (i : ℕ) → i < size s → PrintableAt s Given Finished i
     accepted_printable i h =
-        let z = size_in in
+        let n = (fits s Given sound).lengths in
         record {
-          room = omega (arith, r.lists.few, r.lists.room);
-          deadline = omega (arith, sound_length (set_in l n) Given sound);
-          finish = rw finished (omega (arith, run_length (set_in l n) Given sound));
-          in_time = in_time_at l Given n i h (in_time (set_in l n) Given sound i (omega arith));
+          jobs = h;
+          subtasks = omega (arith, n);
+          deadlines = omega (arith, n);
+          criticals = omega (arith, n);
+          local = omega (arith, sound_length s Given sound);
+          finish = rw finished (omega (arith, run_length s Given sound));
+          in_time = in_time s Given sound i h;
         }
 
-    pub accepted_text : tabled (set_in l n) ≡ out_header ++ joined (line_at (set_in l n) Given Finished) (places n)
+    pub accepted_text : tabled s ≡ out_header ++ joined (line_at s Given Finished) (places (size s))
     unfolding accepted
     accepted_text =
-        let s = set_in l n in
         let p = told judgement.Passed e in
-        rw (tabled-accepted s p, accepted_same s (replicate (size s) 0) ds (length-replicate {A = ℕ} (size s) 0) local_size p, finished)
-        (ap (λ (k : ℕ). out_header ++ joined (line_at s Given (ticks.run s Given s.executions).finishes) (places k)) size_in)
+        rw (tabled-accepted s p, accepted_same s (replicate (size s) 0) ds (length-replicate {A = ℕ} (size s) 0) l p, finished)

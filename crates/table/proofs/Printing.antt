@@ -1,5 +1,5 @@
--- The lines that the code prints: one behind the other, each from the numbers that stand in its lists.
-use Prim.Native.Nat.{ℕ, zero, suc, ◌+◌, ◌*◌, ◌-◌, ◌<◌, ◌≤◌}
+-- The lines that the code prints: one behind the other, each from the numbers of a sub-job.
+use Prim.Native.Nat.{ℕ, zero, suc, ◌+◌, ◌-◌, ◌≤◌}
 use mathlib.Core.List.{List, [], ◌∷◌, ◌++◌, append-nil, append_assoc}
 use mathlib.Core.Path.{◌≡◌, sym, ap, ◌∙◌}
 use native.Mathlib.Nat.{add-zero, zero-add}
@@ -7,18 +7,16 @@ use native.Mathlib.Numerals.{add-one}
 use native.Mathlib.Omega.{arith}
 use borrow.Author.Tests.{le-ltb}
 use lib.IntN.{pos, sub_ℕ, ◌-ℤ◌}
-use lib.ListN.{get_or, drop}
-use lib.Seq.{get_or-take, get_or-drop}
+use lib.ListN.{get_or}
 use Rattle.lists.specs.Places.{from, places}
 use Rattle.subjobs.specs.declared.Reason.{Reason}
 use Rattle.subjobs.specs.Reasons.{number_of}
-use Rattle.subjobs.specs.Layout.{list_at}
-use Rattle.subjobs.specs.Sets.{Subjobs, job, subtask, deadline, withheld}
+use Rattle.subjobs.specs.Sets.{Subjobs, deadline, withheld}
 use Rattle.text.specs.Writing.{decimal, crlf, line_text, Wrote}
 use Rattle.text.proofs.Stored.{then}
 use Rattle.table.specs.Writing.{line_of, printed_line, refusal}
 use Rattle.table.specs.Answers.{line_at, joined}
-use Rattle.table.specs.Stores.{set_in, numbers_at}
+use Rattle.table.specs.Stores.{numbers_at}
 
 joined_last : (f : ℕ → List ℕ) (i n : ℕ) → joined f (from i (suc n)) ≡ joined f (from i n) ++ f (i + n)
 unfolding joined from
@@ -50,23 +48,8 @@ unfolding line_of line_text
 line_is j k d f x = rw (append-nil (decimal x ++ crlf))
 
 -- The line of a place is that of a record of five numbers.
-abbrev pub numbers : Subjobs → List ℕ → List ℕ → ℕ → List ℕ
-numbers s ds fs i = job s i ∷ subtask s i ∷ get_or ds i 0 ∷ get_or fs i 0 ∷ (deadline s i - withheld s i - get_or ds i 0) ∷ []
-
-pub line_of_lem : (s : Subjobs) (ds fs : List ℕ) (i : ℕ) → InTime s ds i → line_at s ds fs i ≡ line_text (numbers s ds fs i)
-line_of_lem s ds fs i e = rw (slack_is (deadline s i) (withheld s i) (get_or ds i 0) e) (line_is _ _ _ _ _)
-
-at_list : (l : List ℕ) (k n i : ℕ) → i < n → get_or (list_at l 128 k n) i 0 ≡ get_or l (128 * k + i) 0
-at_list l k n i h = get_or-take n (drop (128 * k) l) i 0 h ∙ get_or-drop (128 * k) l i 0
-
-module _ (l ds : List ℕ) (n i : ℕ) (h : i < n) where
-  pub in_time_at : InTime (set_in l n) ds i → get_or ds i 0 + get_or l (640 + i) 0 ≤ get_or l (512 + i) 0
-  in_time_at e = omega (arith, at_list l 4 n i h, at_list l 5 n i h)
-
-  pub line_at_lem : (fs : List ℕ) → get_or ds i 0 + get_or l (640 + i) 0 ≤ get_or l (512 + i) 0 → line_at (set_in l n) ds fs i ≡ line_text (numbers_at l ds fs i)
-  line_at_lem fs e =
-      line_of_lem (set_in l n) ds fs i (rw (at_list l 4 n i h, at_list l 5 n i h) e)
-      ∙ rw (get_or-take n l i 0 h, at_list l 1 n i h, at_list l 4 n i h, at_list l 5 n i h)
+pub line_at_is : (s : Subjobs) (ds fs : List ℕ) (i : ℕ) → InTime s ds i → line_at s ds fs i ≡ line_text (numbers_at s ds fs i)
+line_at_is s ds fs i e = rw (slack_is (deadline s i) (withheld s i) (get_or ds i 0) e) (line_is _ _ _ _ _)
 
 -- The line of a refusal.
 pub refusal_is :

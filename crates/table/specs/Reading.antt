@@ -4,17 +4,15 @@
 --   read text                 == the records of a text, or why it is refused
 --   column k rows             == the k-th field of each record
 --   set_of rows                == the set of the sub-jobs that the records tell
-use Rattle.std.specs.Prelude.{ℕ, zero, suc, ◌+◌, cond, List, [], ◌∷◌, ◌++◌, map, ltb, leb, length, get_or}
-use Rattle.text.specs.declared.reading.End.{End}
-use Rattle.text.specs.declared.reading.End.TheVariants as end
+use Rattle.std.specs.Prelude.{ℕ, zero, suc, ◌+◌, cond, List, [], ◌∷◌, ◌++◌, Option, Some, None, map, ltb, leb, length, get_or}
 use Rattle.text.specs.Reading.{record_at, after_line}
 use Rattle.subjobs.specs.declared.Reason.TheVariants as reason
 use Rattle.subjobs.specs.Sets.{Subjobs, subjobs}
 use Rattle.table.specs.Format.{header, fields, Rows, Parsed, records, refused}
 
-abbrev pub on_end : End → Parsed → (ℕ → Parsed) → Parsed
-on_end (end.Next i) p f = f i
-on_end end.Missing p f = p
+abbrev pub on_end : Option ℕ → Parsed → (ℕ → Parsed) → Parsed
+on_end (Some i) p f = f i
+on_end None p f = p
 
 -- Line by line: the first malformed record gives 12, and the start of a 129th record gives 2, its own text unread.
 unfoldable pub records_from : ℕ → Rows → List ℕ → ℕ → Parsed

@@ -4,10 +4,9 @@
 ghost use Rattle.table.specs.Answers.{Tables, Counts};
 
 mod reading;
+mod records;
 mod tabling;
 mod writing;
-
-use reading::Body;
 
 // The deadlines of a table. The answer stands in the first bytes of the output, which has room for every answer: a
 // header of 35 bytes and 128 lines of at most 56. The rest stays as it was. The second clause follows from the first; by
@@ -16,10 +15,8 @@ pub fn table(text: &[u8], out: &mut [u8; 7203]) -> usize
     ensures tables { Tables text.now out.old result out.new }
     ensures counts { Counts result out.new }
 {
-    let mut lists = [0u32; 768];
-    let body = reading::read(text, &mut lists);
-    match body {
-        Body::Refused(reason) => writing::put_refusal(out, reason),
-        Body::Records(count) => tabling::put_records(&lists, count, out),
+    match reading::read(text) {
+        Ok(records) => tabling::put_records(&records, out),
+        Err(reason) => writing::put_refusal(out, reason),
     }
 }

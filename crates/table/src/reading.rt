@@ -1,68 +1,39 @@
-// Reading: from the bytes of a text to the lists of its records, or the reason for which the text is refused.
-// Another field in a record: `fields` and `header` (specs/Format.antt), `row` and the header here, `lists` in lib.rt. The
-// laws are over any number of fields.
-ghost use Rattle.std.specs.Prelude.{◌*◌, ◌<◌, ◌≤◌, ◌≡◌, [], length};
-ghost use Rattle.table.specs.Format.{fields};
+// Reading: from the bytes of a text to its records, or the reason for which the text is refused.
+// Another field in a record: `fields` and `header` (specs/Format.antt), `row` and the header here, `Records`. The laws are
+// over any number of fields.
+ghost use Rattle.std.specs.Prelude.{◌≡◌, []};
 ghost use Rattle.table.specs.Reading.{records_from, read};
-ghost use Rattle.table.specs.Stores.{scattered, Told};
+ghost use Rattle.table.specs.Stores.{told};
 
+use crate::records::Records;
 use subjobs::Reason;
-use text::reading::End;
-
-// How many records were read, or why the text is refused.
-#[derive(Drop)]
-pub(crate) enum Body {
-    Records(usize),
-    Refused(Reason),
-}
-
-// A record put in at a place of the lists, which stand 128 places apart.
-fn put(lists: &mut [u32], place: usize, row: &[u32])
-    requires { (place < 128) × (128 * length row.now ≤ length lists.old) }
-    ensures { lists.new ≡ scattered lists.old place row.now }
-{
-    let mut k = 0;
-    while k < row.len() {
-        lists[128 * k + place] = row[k];
-        k += 1;
-    }
-}
 
 // The records from `at` on, line by line.
-fn records_from(text: &[u8], at: usize, lists: &mut [u32]) -> Body
-    requires { length lists.old ≡ 128 * fields }
-    ensures { Told (records_from 128 [] text.now at) result lists.new }
+fn records_from(text: &[u8], at: usize) -> Result<Records, Reason>
+    ensures { result ≡ told (records_from 128 [] text.now at) }
 {
-    let mut count: usize = 0;
+    let mut records = Records::new();
     let mut i = at;
     while i < text.len() {
-        if 128 <= count {
-            return Body::Refused(Reason::TooMany);
+        if 128 <= records.len() {
+            return Err(Reason::TooMany);
         }
+        let line = records.len() + 2;
         let mut row = [0u32; 6];
-        let End::Next(next) = text::reading::record_at(text, i, &mut row) else {
-            return Body::Refused(Reason::Malformed { line: count + 2 });
-        };
-        put(lists, count, &row);
-        count += 1;
-        i = next;
+        i = text::reading::record_at(text, i, &mut row).ok_or(Reason::Malformed { line })?;
+        records.push(&row);
     }
-    Body::Records(count)
+    Ok(records)
 }
 
 // A text is judged 10, then 11, then line by line.
-pub(crate) fn read(text: &[u8], lists: &mut [u32]) -> Body
-    requires { length lists.old ≡ 128 * fields }
-    ensures { Told (read text.now) result lists.new }
+pub(crate) fn read(text: &[u8]) -> Result<Records, Reason>
+    ensures { result ≡ told (read text.now) }
 {
     if 16_384 < text.len() {
-        return Body::Refused(Reason::TextTooLong);
+        return Err(Reason::TextTooLong);
     }
-    let End::Next(at) = text::reading::after_line(
-        text,
-        b"job,subtask,release,execution,deadline,critical",
-    ) else {
-        return Body::Refused(Reason::Header);
-    };
-    records_from(text, at, lists)
+    let header = b"job,subtask,release,execution,deadline,critical";
+    let at = text::reading::after_line(text, header).ok_or(Reason::Header)?;
+    records_from(text, at)
 }

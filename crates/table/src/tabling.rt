@@ -1,25 +1,16 @@
-// From the lists of the records to the output: the assignment's deadlines, the simulator's finishes, the lines.
-ghost use Rattle.std.specs.Prelude.{◌<◌, ◌≡◌};
-ghost use Rattle.subjobs.specs.Layout.{list_at};
+// From the records to the output: the assignment's deadlines, the simulator's finishes, the lines.
+ghost use Rattle.std.specs.Prelude.{◌≡◌, ◌≤◌, length};
+ghost use Rattle.subjobs.specs.Sets.{size};
 ghost use Rattle.olda.specs.Answers as olda;
 ghost use Rattle.edf.specs.Answers as edf;
 ghost use Rattle.text.specs.Writing.{Wrote};
-ghost use Rattle.table.specs.Format.{fields};
 ghost use Rattle.table.specs.Answers.{verdict_of, tabled};
-ghost use Rattle.table.specs.Stores.{set_in, Listed, Roomy};
 
+use crate::records::Records;
 use crate::writing;
 use edf::Totals;
 use olda::Answer;
 use subjobs::Judgement;
-
-// The first n places of the k-th of the lists, which stand 128 places apart.
-fn list(lists: &[u32], k: usize, n: usize) -> &[u32]
-    requires { Listed lists.now n × (k < fields) }
-    ensures { result.now ≡ list_at lists.now 128 k n }
-{
-    &lists[128 * k..128 * k + n]
-}
 
 // Whether the assignment accepts, and why not.
 fn verdict_of(answer: Answer) -> Judgement
@@ -33,67 +24,61 @@ fn verdict_of(answer: Answer) -> Judgement
 }
 
 // The assignment on a set.
-fn place(lists: &[u32], n: usize, local: &mut [u32]) -> Answer
-    requires { Listed lists.now n }
-    ensures { olda.Assigns (set_in lists.now n) local.old result local.new }
+fn place(records: &Records, local: &mut [u32]) -> Answer
+    ensures { olda.Assigns records.now local.old result local.new }
 {
     olda::assign(
-        list(lists, 0, n),
-        list(lists, 1, n),
-        list(lists, 2, n),
-        list(lists, 3, n),
-        list(lists, 4, n),
-        list(lists, 5, n),
+        records.jobs(),
+        records.subtasks(),
+        records.releases(),
+        records.executions(),
+        records.deadlines(),
+        records.criticals(),
         local,
     )
 }
 
 // A run of a set in which every ask equals execution.
-fn run(lists: &[u32], n: usize, local: &[u32], finishes: &mut [u32])
-    requires { Listed lists.now n }
-    ensures { finishes.new ≡ edf.finishes (set_in lists.now n) local.now
-        (list_at lists.now 128 3 n) finishes.old (record { busy = 0; idle = 0 }) }
+fn run(records: &Records, local: &[u32], finishes: &mut [u32])
+    ensures { finishes.new ≡ edf.finishes records.now local.now
+        records.now.executions finishes.old (record { busy = 0; idle = 0 }) }
 {
     edf::simulate(
-        list(lists, 0, n),
-        list(lists, 1, n),
-        list(lists, 2, n),
-        list(lists, 3, n),
-        list(lists, 4, n),
-        list(lists, 5, n),
+        records.jobs(),
+        records.subtasks(),
+        records.releases(),
+        records.executions(),
+        records.deadlines(),
+        records.criticals(),
         local,
-        list(lists, 3, n),
+        records.executions(),
         finishes,
         Totals { busy: 0, idle: 0 },
     );
 }
 
 // The output for a set. `local` and `finishes` are room for the deadlines and the finishes.
-fn put_set(
-    lists: &[u32],
-    n: usize,
-    local: &mut [u32],
-    finishes: &mut [u32],
-    out: &mut [u8],
-) -> usize
-    requires { Roomy lists.now n local.old finishes.old }
-    ensures { Wrote out.old 0 (tabled (set_in lists.now n)) out.new result }
+fn put_set(records: &Records, local: &mut [u32], finishes: &mut [u32], out: &mut [u8]) -> usize
+    requires deadlines { length local.old ≡ size records.now }
+    requires finishes { length finishes.old ≡ size records.now }
+    requires few { size records.now ≤ 128 }
+    ensures { Wrote out.old 0 (tabled records.now) out.new result }
 {
-    let verdict = verdict_of(place(lists, n, local));
+    let verdict = verdict_of(place(records, local));
     if let Judgement::Refused(reason) = verdict {
         return writing::put_refusal(out, reason);
     }
-    run(lists, n, local, finishes);
+    run(records, local, finishes);
     let at = text::writing::put_text(out, 0, b"job,subtask,deadline,finish,slack\r\n");
-    writing::put_lines(lists, n, local, finishes, out, at)
+    writing::put_lines(records, local, finishes, out, at)
 }
 
-// The output for the first n records.
-pub(crate) fn put_records(lists: &[u32], n: usize, out: &mut [u8]) -> usize
-    requires { Listed lists.now n }
-    ensures { Wrote out.old 0 (tabled (set_in lists.now n)) out.new result }
+// The output for the records of a table.
+pub(crate) fn put_records(records: &Records, out: &mut [u8]) -> usize
+    ensures { Wrote out.old 0 (tabled records.now) out.new result }
 {
+    let n = records.len();
     let mut local = [0u32; 128];
     let mut finishes = [0u32; 128];
-    put_set(lists, n, &mut local[..n], &mut finishes[..n], out)
+    put_set(records, &mut local[..n], &mut finishes[..n], out)
 }

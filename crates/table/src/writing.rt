@@ -3,42 +3,47 @@
 ghost use Rattle.std.specs.Prelude.{ℕ, ◌<◌, ◌≤◌, ◌≡◌};
 ghost use Rattle.lists.specs.Places.{places};
 ghost use Rattle.subjobs.specs.Reasons.{place_of};
+ghost use Rattle.subjobs.specs.Sets.{size};
 ghost use Rattle.text.specs.Writing.{Wrote};
 ghost use Rattle.table.specs.Writing.{refusal};
 ghost use Rattle.table.specs.Answers.{line_at, joined};
-ghost use Rattle.table.specs.Stores.{set_in, numbers_at, PrintableAt, PrintedLine};
+ghost use Rattle.table.specs.Stores.{numbers_at, PrintableAt, PrintedLine};
 
+use crate::records::Records;
 use subjobs::Reason;
 
 // The numbers of the line of place i: job, subtask, local deadline, finish, slack.
-fn line_at(lists: &[u32], local: &[u32], finishes: &[u32], i: usize) -> [u32; 5]
-    requires { PrintableAt lists.now local.now finishes.now i }
-    ensures { result ≡ numbers_at lists.now local.now finishes.now i }
+fn line_at(records: &Records, local: &[u32], finishes: &[u32], i: usize) -> [u32; 5]
+    requires { PrintableAt records.now local.now finishes.now i }
+    ensures { result ≡ numbers_at records.now local.now finishes.now i }
 {
-    let slack = lists[512 + i] - lists[640 + i] - local[i];
-    [lists[i], lists[128 + i], local[i], finishes[i], slack]
+    let slack = records.deadlines()[i] - records.criticals()[i] - local[i];
+    [
+        records.jobs()[i],
+        records.subtasks()[i],
+        local[i],
+        finishes[i],
+        slack,
+    ]
 }
 
 // One line per sub-job, in input order.
 pub(crate) fn put_lines(
-    lists: &[u32],
-    n: usize,
+    records: &Records,
     local: &[u32],
     finishes: &[u32],
     out: &mut [u8],
     at: usize,
 ) -> usize
-    requires { (i : ℕ) → i < n → PrintableAt lists.now local.now finishes.now i }
+    requires { (i : ℕ) → i < size records.now → PrintableAt records.now local.now finishes.now i }
     ensures { Wrote out.old at
-        (joined (line_at (set_in lists.now n) local.now finishes.now) (places n))
+        (joined (line_at records.now local.now finishes.now) (places (size records.now)))
         out.new result }
 {
     let mut end = at;
-    let mut i = 0;
-    while i < n {
-        let line = line_at(lists, local, finishes, i);
+    for i in 0..records.len() {
+        let line = line_at(records, local, finishes, i);
         end = text::writing::put_record(out, end, &line);
-        i += 1;
     }
     end
 }
@@ -48,10 +53,10 @@ fn printed_line(number: u32, place: usize) -> usize
     requires { place ≤ 129 }
     ensures { PrintedLine number place result }
 {
-    if (3 <= number) & (number <= 5) {
-        return place + 2;
+    match number {
+        3..=5 => place + 2,
+        _ => place,
     }
-    place
 }
 
 // The one line of a refused text.

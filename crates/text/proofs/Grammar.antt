@@ -4,6 +4,7 @@ use Prim.Native.Nat.{ℕ, zero, suc, ◌+◌, ◌*◌, ◌-◌, ◌<◌, ◌≤�
 use mathlib.Core.Bool.{true, ◌&&◌, ◌||◌}
 use mathlib.Core.List.{List, [], ◌∷◌, ◌++◌, append_assoc, append-nil}
 use mathlib.Core.Logic.{◌⊎◌, inl, inr}
+use Rattle.std.proofs.Common.{Some, None}
 use mathlib.Core.Path.{◌≡◌, refl, sym, ap, ◌∙◌}
 use native.Mathlib.Nat.{add-zero, zero-add}
 use native.Mathlib.Numerals.{add-one}
@@ -14,10 +15,7 @@ use lib.ListN.{length, drop, length-drop, length-append, drop_of_length-le, get_
 use lib.Seq.{drop-drop, drop-append_seam, drop-cons, drop-length, get_or-drop}
 use Rattle.lists.specs.Places.{Every}
 use Rattle.lists.proofs.Cases.{split, test, clash, both, tests}
-use Rattle.text.specs.declared.reading.Cell.{Cell}
-use Rattle.text.specs.declared.reading.Cell.TheVariants as cell
-use Rattle.text.specs.declared.reading.End.TheVariants as end
-use Rattle.text.specs.Reading.{byte_at, digits, number, number_at, followed, field_at, cell_at, line_end, record_at, starts, after_line}
+use Rattle.text.specs.Reading.{byte_at, Cell, digits, number, number_at, followed, field_at, cell_at, line_end, record_at, starts, after_line}
 use Rattle.text.specs.Format.{Digit, value_from, Number, Field, bare, quoted, Record, last, more, Line, First}
 use Rattle.text.proofs.Scanning.{digit}
 
@@ -94,15 +92,15 @@ digits_cases v n i (b ∷ bs) =
 -- A word of value v stands at i, and is read as c; or nothing is.
 abbrev Found : (List ℕ → ℕ → Type 0) → List ℕ → ℕ → Cell → Type 0
 Found P text i c =
-    ((w : List ℕ) × (v : ℕ) × P w v × At text i (w ++ drop (i + length w) text) × (c ≡ cell.Number v (i + length w)))
-    ⊎ (c ≡ cell.Malformed)
+    ((w : List ℕ) × (v : ℕ) × P w v × At text i (w ++ drop (i + length w) text) × (c ≡ Some (v, i + length w)))
+    ⊎ (c ≡ None)
 
 -- A word with a byte behind it.
 abbrev Behind : ℕ → (List ℕ → ℕ → Type 0) → List ℕ → ℕ → Type 0
 Behind b P w v = (u : List ℕ) × P u v × (w ≡ u ++ (b ∷ []))
 
 module _ (text : List ℕ) (i : ℕ) where
-  number_read : (s : List ℕ) → Stops s → (ds : List ℕ) (v : ℕ) → Number ds v → At text i (ds ++ s) → number_at text i ≡ cell.Number v (i + length ds)
+  number_read : (s : List ℕ) → Stops s → (ds : List ℕ) (v : ℕ) → Number ds v → At text i (ds ++ s) → number_at text i ≡ Some (v, i + length ds)
   unfolding number
   number_read s stop ds v w e =
       rw (
@@ -131,7 +129,7 @@ module _ (text : List ℕ) (i : ℕ) where
       (λ t. inr (rw (q.4, zero-add (length ds), t)))
 
   followed_read :
-      (b v : ℕ) (w s : List ℕ) → At text i (w ++ (b ∷ s)) → followed text b (cell.Number v (i + length w)) ≡ cell.Number v (i + length w + 1)
+      (b v : ℕ) (w s : List ℕ) → At text i (w ++ (b ∷ s)) → followed text b (Some (v, i + length w)) ≡ Some (v, i + length w + 1)
   followed_read b v w s e = rw (eq-eqb _ _ (at_byte text (i + length w) b s (at_next text i w (b ∷ s) e)))
 
   followed_cases : (P : List ℕ → ℕ → Type 0) (b : ℕ) → 0 < b → (c : Cell) → Found P text i c → Found (Behind b P) text i (followed text b c)
@@ -146,7 +144,7 @@ module _ (text : List ℕ) (i : ℕ) where
       (λ t. inr (rw (q, t)))
 
 module _ (text : List ℕ) (i : ℕ) where
-  field_read : (s : List ℕ) → Stops s → {w : List ℕ} {v : ℕ} → Field w v → At text i (w ++ s) → field_at text i ≡ cell.Number v (i + length w)
+  field_read : (s : List ℕ) → Stops s → {w : List ℕ} {v : ℕ} → Field w v → At text i (w ++ s) → field_at text i ≡ Some (v, i + length w)
   unfolding field_at
   field_read s stop (bare {ds = []} {v = v} n) e = let h = n.some in absurd (omega arith)
   field_read s stop (bare {ds = d ∷ ds} {v = v} n) e =
@@ -156,7 +154,7 @@ module _ (text : List ℕ) (i : ℕ) where
   field_read s stop (quoted {ds} {v} n) e =
       let f : At text (i + 1) (ds ++ (34 ∷ s)) = at_one text i 34 (ds ++ (34 ∷ []) ++ s) e ∙ append_assoc ds (34 ∷ []) s in
       rw (eq-eqb (byte_at text i) 34 (at_byte text i 34 (ds ++ (34 ∷ []) ++ s) e), number_read text (i + 1) (34 ∷ s) (stops_at 34 s refl) ds v n f, followed_read text (i + 1) 34 v ds s f)
-      (ap (λ (k : ℕ). cell.Number v k) (omega (arith, length-append ds (34 ∷ []))))
+      (ap (λ (k : ℕ). Some (v, k)) (omega (arith, length-append ds (34 ∷ []))))
 
   field_cases : Found Field text i (field_at text i)
   unfolding field_at
@@ -177,11 +175,11 @@ module _ (text : List ℕ) (i : ℕ) where
           inl (34 ∷ w, v, rw z (quoted n), byte_at_lem text i 34 (omega arith) t ∙ rw (e, k), rw (q, k))
 
   -- Of the fields of a record, the last and the others.
-  last_read : (s : List ℕ) → Stops s → {w : List ℕ} {v : ℕ} → Field w v → At text i (w ++ s) → cell_at 0 text i ≡ cell.Number v (i + length w)
+  last_read : (s : List ℕ) → Stops s → {w : List ℕ} {v : ℕ} → Field w v → At text i (w ++ s) → cell_at 0 text i ≡ Some (v, i + length w)
   unfolding cell_at
   last_read s stop f e = field_read s stop f e
 
-  parted_read : (n : ℕ) → 0 < n → (s : List ℕ) {w : List ℕ} {v : ℕ} → Field w v → At text i (w ++ (44 ∷ s)) → cell_at n text i ≡ cell.Number v (i + length w + 1)
+  parted_read : (n : ℕ) → 0 < n → (s : List ℕ) {w : List ℕ} {v : ℕ} → Field w v → At text i (w ++ (44 ∷ s)) → cell_at n text i ≡ Some (v, i + length w + 1)
   unfolding cell_at
   parted_read n h s {w} {v} f e =
       rw (ne_eqb n 0 (λ q. omega arith), field_read (44 ∷ s) (stops_at 44 s refl) f e, followed_read text i 44 v w s e)
@@ -194,11 +192,11 @@ module _ (text : List ℕ) (i : ℕ) where
   unfolding cell_at
   parted_cases n = rw (ne_eqb (suc n) 0 (λ q. omega arith)) (followed_cases text i Field 44 (omega arith) (field_at text i) field_cases)
 
-  end_read : At text i [] → line_end text i ≡ end.Next i
+  end_read : At text i [] → line_end text i ≡ Some i
   unfolding line_end
   end_read e = rw (le-leb _ _ (at_end text i e))
 
-  crlf_read : (w : List ℕ) → At text i (13 ∷ 10 ∷ w) → line_end text i ≡ end.Next (i + 2)
+  crlf_read : (w : List ℕ) → At text i (13 ∷ 10 ∷ w) → line_end text i ≡ Some (i + 2)
   unfolding line_end
   crlf_read w e =
       rw (
@@ -208,7 +206,7 @@ module _ (text : List ℕ) (i : ℕ) where
       )
 
   -- A line ends at i, or none does.
-  end_cases : ((j : ℕ) × (line_end text i ≡ end.Next j) × Line [] (drop i text) (drop j text)) ⊎ (line_end text i ≡ end.Missing)
+  end_cases : ((j : ℕ) × (line_end text i ≡ Some j) × Line [] (drop i text) (drop j text)) ⊎ (line_end text i ≡ None)
   unfolding line_end
   end_cases =
       test (leb (length text) i)
@@ -246,7 +244,7 @@ fields_read (more {k = k} {w = w} {s = u} f r) text i s stop e =
 pub record_read :
     (k : ℕ) (text : List ℕ) (i : ℕ) {vs t : List ℕ}
     → First k (drop i text) vs t
-    → (j : ℕ) × (record_at k text i ≡ record { values = vs; end = end.Next j }) × At text j t
+    → (j : ℕ) × (record_at k text i ≡ record { values = vs; end = Some j }) × At text j t
 record_read k text i {vs} {t} r =
     split r.stands
     (λ e.
@@ -265,9 +263,9 @@ abbrev Cases : ℕ → List ℕ → ℕ → Type 0
 Cases k text i =
     ((vs : List ℕ)
     × (j : ℕ)
-    × (record_at k text i ≡ record { values = vs; end = end.Next j })
+    × (record_at k text i ≡ record { values = vs; end = Some j })
     × First k (drop i text) vs (drop j text))
-    ⊎ ((record_at k text i).end ≡ end.Missing)
+    ⊎ ((record_at k text i).end ≡ None)
 
 fields_cases : (n : ℕ) (text : List ℕ) (i : ℕ) → Cases (suc n) text i
 unfolding record_at
@@ -326,7 +324,7 @@ starts_cases (w ∷ ws) (b ∷ bs) e =
     (λ t. clash e (rw t))
 
 module _ (w text : List ℕ) where
-  pub line_read : {t : List ℕ} → Line w text t → (j : ℕ) × (after_line w text ≡ end.Next j) × At text j t
+  pub line_read : {t : List ℕ} → Line w text t → (j : ℕ) × (after_line w text ≡ Some j) × At text j t
   unfolding after_line
   line_read {t} (inl e) =
       let s : starts w text ≡ true = rw e (starts_read w (13 ∷ 10 ∷ t)) in
@@ -337,7 +335,7 @@ module _ (w text : List ℕ) where
       let f : At text (length w) [] = rw e (drop-length w) in
       (length w, rw (s, end_read text (length w) f), rw z f)
 
-  pub line_cases : ((j : ℕ) × (after_line w text ≡ end.Next j) × Line w text (drop j text)) ⊎ (after_line w text ≡ end.Missing)
+  pub line_cases : ((j : ℕ) × (after_line w text ≡ Some j) × Line w text (drop j text)) ⊎ (after_line w text ≡ None)
   unfolding after_line
   line_cases =
       test (starts w text)

@@ -1,22 +1,26 @@
--- How the definitions of Reading.antt go on from one byte to the next: what each turn of a reader's loop cites.
+-- How the definitions of Reading.antt go on from one byte to the next.
 use Prim.Native.Nat.{ℕ, zero, suc, ◌+◌, ◌*◌, ◌-◌, ◌<◌, ◌≤◌}
-use mathlib.Core.Bool.{true, false, ◌||◌, and-false}
+use mathlib.Core.Bool.{true, false, ◌||◌, ◌&&◌, and-false, and-true}
 use mathlib.Core.List.{List, [], ◌∷◌, ◌++◌, append_assoc, append-nil}
 use mathlib.Core.Path.{◌≡◌, refl, sym, ap, ◌∙◌}
-use native.Mathlib.Nat.{sub-zero}
+use native.Mathlib.Nat.{sub-zero, add-zero, zero-add}
 use native.Mathlib.Numerals.{add-one}
 use native.Mathlib.Omega.{arith}
-use borrow.Author.Tests.{le-leb, lt-leb}
-use lib.Dec.{ltb, eqb}
+use borrow.Author.Tests.{le-leb, lt-leb, le-ltb, leb-true, eq-eqb, ne_eqb, eqb-true, eqb-false}
+use lib.Dec.{ltb, leb, eqb}
 use lib.ListN.{length, get_or, take, drop, set, take-append-drop, length-set, drop_of_length-le}
-use lib.Seq.{length-take-le, take-suc-set, drop-set-lt, drop-drop, drop-cons, drop-length}
-use Rattle.lists.proofs.Cases.{test, tests, neither}
+use lib.Seq.{length-take-le, take-suc-set, drop-set-lt, drop-drop, drop-cons, drop-length, get_or-drop}
+use Rattle.std.specs.List.{take_while, starts_with, prefix_len, between}
+use Rattle.std.specs.Char.{is_ascii_digit}
+use Rattle.std.proofs.Common.{Option, Some, None}
+use Rattle.std.proofs.lemmas.List.Sums.{take_while-cons}
+use Rattle.std.proofs.lemmas.List.Folds.{length-prefix_len}
+use Rattle.std.proofs.lemmas.Slice.{between_to_end}
+use Rattle.lists.specs.Places.{Every}
+use Rattle.lists.proofs.Cases.{test, clash, both, tests, neither}
 use Rattle.lists.proofs.Count.{left_none}
-use Rattle.text.specs.declared.reading.Cell.{Cell}
-use Rattle.text.specs.declared.reading.Cell.TheVariants as cell
-use Rattle.text.specs.declared.reading.End.{End}
-use Rattle.text.specs.declared.reading.End.TheVariants as end
-use Rattle.text.specs.Reading.{digits, number, cell_at, line_end, Fields, on_cell, record_at, starts, Recorded}
+use Rattle.text.specs.Format.{Digit, value_from}
+use Rattle.text.specs.Reading.{byte_at, digits, number, number_at, cell_at, line_end, Fields, on_cell, record_at, starts, Recorded}
 
 -- A byte that is a digit.
 pub digit : (b : ℕ) → (ltb b 48 || ltb 57 b) ≡ false → (48 ≤ b) × (b ≤ 57)
@@ -26,57 +30,110 @@ digit b e =
     let high = h.1 in
     (omega tests, omega tests)
 
--- More than 10 digits, and a value too great, stay so with every further digit.
-pub too_long : (v n i : ℕ) (bs : List ℕ) → 10 < n → number (digits v n i bs) ≡ cell.Malformed
+-- A value only grows with every further digit.
+at_least : (v : ℕ) (ds : List ℕ) → v ≤ value_from v ds
+unfolding value_from
+at_least v [] = omega arith
+at_least v (d ∷ ds) = omega (arith, at_least (v * 10 + (d - 48)) ds)
+
+module _ (ds : List ℕ) (v i : ℕ) (h : i < length ds) where
+  pub value_more : value_from v (drop i ds) ≡ value_from (v * 10 + (get_or ds i 0 - 48)) (drop (i + 1) ds)
+  unfolding value_from
+  value_more = rw (drop-cons ds i 0 h, add-one i)
+
+  pub value_grows : v * 10 + (get_or ds i 0 - 48) ≤ value_from v (drop i ds)
+  value_grows = rw value_more (at_least (v * 10 + (get_or ds i 0 - 48)) (drop (i + 1) ds))
+
+pub value_all : (ds : List ℕ) (v i : ℕ) → length ds ≤ i → value_from v (drop i ds) ≡ v
+unfolding value_from
+value_all ds v i h = rw (drop_of_length-le ds h)
+
+-- The digits that a text begins with are what std's methods take.
+abbrev pub run : List ℕ → List ℕ
+run bs = take_while is_ascii_digit bs
+
+is_digit : (b : ℕ) → (ltb b 48 || ltb 57 b) ≡ false → is_ascii_digit b ≡ true
+is_digit b e = let d = digit b e in rw (le-leb 48 b d.0, le-leb b 57 d.1)
+
+is_none : (b : ℕ) → (ltb b 48 || ltb 57 b) ≡ true → is_ascii_digit b ≡ false
+is_none b e = test (is_ascii_digit b) (λ t. let q = both t in clash e (rw (le-ltb b 48 (leb-true _ _ q.0), le-ltb 57 b (leb-true _ _ q.1)))) (λ t. t)
+
+run_more : (b : ℕ) (bs : List ℕ) → (ltb b 48 || ltb 57 b) ≡ false → run (b ∷ bs) ≡ b ∷ run bs
+run_more b bs e = take_while-cons is_ascii_digit b bs ∙ rw (is_digit b e)
+
+pub run_digits : (bs : List ℕ) → Every Digit (run bs)
+run_digits [] = tt
+run_digits (b ∷ bs) =
+    test (ltb b 48 || ltb 57 b) (λ e. rw (is_none b e) tt) (λ e. rw (run_more b bs e) (digit b e, run_digits bs))
+
+digits_run :
+    (v n i : ℕ) (bs : List ℕ)
+    → digits v n i bs ≡ record { value = value_from v (run bs); count = n + length (run bs); end = i + length (run bs) }
+unfolding digits value_from
+digits_run v n i [] = rw (add-zero n, add-zero i)
+digits_run v n i (b ∷ bs) =
+    test (ltb b 48 || ltb 57 b) (λ e. rw (e, is_none b e, add-zero n, add-zero i))
+    (λ e.
+    let c : n + 1 + length (run bs) ≡ n + suc (length (run bs)) = omega arith in
+    let j : i + 1 + length (run bs) ≡ i + suc (length (run bs)) = omega arith in
+    rw (run_more b bs e, e, digits_run (v * 10 + (b - 48)) (n + 1) (i + 1) bs, c, j))
+
+-- What the run of digits says of the number: there is none past the end, none of no digit or of more than 10, and none of
+-- a value too great.
+pub number_past : (text : List ℕ) (i : ℕ) → length text < i → number_at text i ≡ None
 unfolding number digits
-too_long v n i [] h = rw (le-leb 1 n (omega arith), lt-leb n 10 h)
-too_long v n i (b ∷ bs) h =
-    let ih = too_long (v * 10 + (b - 48)) (n + 1) (i + 1) bs (omega arith) in
-    test (ltb b 48 || ltb 57 b) (λ e. rw (e, le-leb 1 n (omega arith), lt-leb n 10 h)) (λ e. rw e ih)
+number_past text i h = rw (drop_of_length-le text {i = i} (omega arith))
 
-pub too_great : (v n i : ℕ) (bs : List ℕ) → 4_294_967_295 < v → number (digits v n i bs) ≡ cell.Malformed
-unfolding number digits
-too_great v n i [] h = rw (lt-leb v 4_294_967_295 h, and-false)
-too_great v n i (b ∷ bs) h =
-    let ih = too_great (v * 10 + (b - 48)) (n + 1) (i + 1) bs (omega arith) in
-    test (ltb b 48 || ltb 57 b) (λ e. rw (e, lt-leb v 4_294_967_295 h, and-false)) (λ e. rw e ih)
+module _ (text : List ℕ) (i : ℕ) {rest : List ℕ} (e : rest ≡ between i (length text) text) where
+  abbrev count : ℕ
+  count = prefix_len is_ascii_digit rest
 
-module _ (text : List ℕ) (v n i : ℕ) where
-  pub digits_end : length text ≤ i → digits v n i (drop i text) ≡ record { value = v; count = n; end = i }
-  unfolding digits
-  digits_end h = rw (drop_of_length-le text h)
+  abbrev told : ℕ
+  told = value_from 0 (run rest)
 
-  module _ (h : i < length text) where
-    pub digits_stop : (ltb (get_or text i 0) 48 || ltb 57 (get_or text i 0)) ≡ true → digits v n i (drop i text) ≡ record { value = v; count = n; end = i }
-    unfolding digits
-    digits_stop e = rw (drop-cons text i 0 h, e)
+  at_run : digits 0 0 i (drop i text) ≡ record { value = told; count = count; end = i + count }
+  at_run =
+      let r : drop i text ≡ rest = sym (e ∙ between_to_end text i (length text) (omega arith)) in
+      rw (r, digits_run 0 0 i rest, length-prefix_len is_ascii_digit rest, zero-add (prefix_len is_ascii_digit rest))
 
-    pub digits_more :
-        (ltb (get_or text i 0) 48 || ltb 57 (get_or text i 0)) ≡ false
-        → digits v n i (drop i text) ≡ digits (v * 10 + (get_or text i 0 - 48)) (n + 1) (i + 1) (drop (i + 1) text)
-    unfolding digits
-    digits_more e = rw (drop-cons text i 0 h, e, add-one i)
+  pub number_length : ((1 ≤ count) × (count ≤ 10) → ⊥) → number_at text i ≡ None
+  unfolding number
+  number_length h =
+      rw at_run
+      (test (leb 1 count && leb count 10)
+      (λ t. let b = both t in absurd (h (leb-true _ _ b.0, leb-true _ _ b.1)))
+      (λ t. rw t))
 
-module _ (word text : List ℕ) (i : ℕ) where
-  pub starts_done : length word ≤ i → starts (drop i word) (drop i text) ≡ true
-  unfolding starts
-  starts_done h = rw (drop_of_length-le word h)
+  pub number_great : 4_294_967_295 < told → number_at text i ≡ None
+  unfolding number
+  number_great h = rw (at_run, lt-leb _ _ h, and-false)
 
-  module _ (h : i < length word) where
-    pub starts_short : length text ≤ i → starts (drop i word) (drop i text) ≡ false
-    unfolding starts
-    starts_short g = rw (drop-cons word i 0 h, drop_of_length-le text g)
+  pub number_is : 1 ≤ count → count ≤ 10 → told ≤ 4_294_967_295 → number_at text i ≡ Some (told, i + count)
+  unfolding number
+  number_is a b c = rw (at_run, le-leb _ _ a, le-leb _ _ b, le-leb _ _ c)
 
-    module _ (g : i < length text) where
-      pub starts_not : eqb (get_or text i 0) (get_or word i 0) ≡ false → starts (drop i word) (drop i text) ≡ false
-      unfolding starts
-      starts_not e = rw (drop-cons word i 0 h, drop-cons text i 0 g, e)
+-- Words: what std's test says, byte by byte.
+flip : (a b : ℕ) → eqb a b ≡ eqb b a
+flip a b = test (eqb b a) (λ e. rw e (eq-eqb a b (sym (eqb-true b a e)))) (λ e. rw e (ne_eqb a b (λ q. eqb-false b a e (sym q))))
 
-      pub starts_more :
-          eqb (get_or text i 0) (get_or word i 0) ≡ true
-          → starts (drop i word) (drop i text) ≡ starts (drop (i + 1) word) (drop (i + 1) text)
-      unfolding starts
-      starts_more e = rw (drop-cons word i 0 h, drop-cons text i 0 g, e, add-one i)
+pub starts_std : (w text : List ℕ) → starts w text ≡ starts_with eqb text w
+unfolding starts
+starts_std [] text = refl
+starts_std (w ∷ ws) [] = refl
+starts_std (w ∷ ws) (b ∷ bs) =
+    rw (starts_std ws bs, flip w b) (test (eqb b w) (λ e. rw e) (λ e. rw e))
+
+pub crlf_std : (text : List ℕ) (i : ℕ) → starts_with eqb (between i (length text) text) (13 ∷ 10 ∷ []) ≡ (eqb (byte_at text i) 13 && eqb (byte_at text (i + 1)) 10)
+crlf_std text i =
+    let n : i + 0 ≡ i = add-zero i in
+    ap (λ (bs : List ℕ). starts_with eqb bs (13 ∷ 10 ∷ [])) (between_to_end text i (length text) (omega arith))
+    ∙ first (drop i text)
+    ∙ rw (get_or-drop i text 0 0, get_or-drop i text 1 0, n)
+  where
+    first : (bs : List ℕ) → starts_with eqb bs (13 ∷ 10 ∷ []) ≡ (eqb (get_or bs 0 0) 13 && eqb (get_or bs 1 0) 10)
+    first [] = refl
+    first (b ∷ []) = simp and-false
+    first (b ∷ c ∷ bs) = rw (flip 13 b, flip 10 c, and-true)
 
 -- A record, field by field: the list holds the values read, and what is left to read decides the whole.
 pub record Filled (text : List ℕ) (at : ℕ) (out₀ out : List ℕ) (i k : ℕ) : Type 0 where
@@ -91,7 +148,7 @@ filled_none text at out = record { same = refl; few = omega arith; end = rw sub-
 
 module _ {text out₀ out : List ℕ} {at i k : ℕ} (f : Filled text at out₀ out i k) where
   -- Nothing more is read.
-  filled_end : (e : End) → record_at (length out - k) text i ≡ record { values = []; end = e } → Recorded text at out₀ e out
+  filled_end : (e : Option ℕ) → record_at (length out - k) text i ≡ record { values = []; end = e } → Recorded text at out₀ e out
   filled_end e q =
       let v : (record_at (length out₀) text at).values ≡ take k out = f.values ∙ rw (q, append-nil) in
       let l : length (take k out) ≡ k = length-take-le k out f.few in
@@ -100,33 +157,33 @@ module _ {text out₀ out : List ℕ} {at i k : ℕ} (f : Filled text at out₀ 
         values = rw (v, l, ← f.kept) (sym (take-append-drop k out));
       }
 
-  pub filled_all : length out ≤ k → Recorded text at out₀ (line_end text i) out
+  pub filled_all : length out₀ ≤ k → Recorded text at out₀ (line_end text i) out
   unfolding record_at
-  filled_all h = filled_end (line_end text i) (rw (left_none (length out) k h))
+  filled_all h = filled_end (line_end text i) (rw (left_none (length out) k (omega (arith, f.same))))
 
-  module _ (h : k < length out) where
+  module _ (h : k < length out₀) where
     left : length out - k ≡ suc (length out - k - 1)
-    left = omega arith
+    left = omega (arith, f.same)
 
-    pub filled_broken : cell_at (length out - k - 1) text i ≡ cell.Malformed → Recorded text at out₀ end.Missing out
+    pub filled_broken : cell_at (length out - k - 1) text i ≡ None → Recorded text at out₀ None out
     unfolding record_at
-    filled_broken e = filled_end end.Missing (rw (left, e))
+    filled_broken e = filled_end None (rw (left, e))
 
     pub filled_more :
-        (v j : ℕ) → cell_at (length out - k - 1) text i ≡ cell.Number v j → Filled text at out₀ (set out k v) j (k + 1)
+        (v j : ℕ) → cell_at (length out - k - 1) text i ≡ Some (v, j) → Filled text at out₀ (set out k v) j (k + 1)
     unfolding record_at
     filled_more v j e =
         let z : length (set out k v) - (k + 1) ≡ length out - k - 1 = simp length-set (omega arith) in
         record {
           same = simp length-set f.same;
-          few = simp length-set (omega arith);
+          few = simp length-set (omega (arith, f.same));
           end = f.end ∙ rw (left, e, z);
-          values = f.values ∙ rw (left, e, z, add-one k, take-suc-set out k v h) (sym (append_assoc (take k out) _ _));
+          values = f.values ∙ rw (left, e, z, add-one k, take-suc-set out k v (omega (arith, f.same))) (sym (append_assoc (take k out) _ _));
           kept = drop-set-lt (k + 1) out k v (omega arith) ∙ sym (drop-drop 1 k out) ∙ ap (drop 1) f.kept ∙ drop-drop 1 k out₀;
         }
 
 -- A record that was read to the end of its line has all its fields.
-record_full : (n : ℕ) (text : List ℕ) (i j : ℕ) → (record_at n text i).end ≡ end.Next j → length (record_at n text i).values ≡ n
+record_full : (n : ℕ) (text : List ℕ) (i j : ℕ) → (record_at n text i).end ≡ Some j → length (record_at n text i).values ≡ n
 unfolding record_at
 record_full zero text i j e = refl
 record_full (suc n) text i j e = by (cell_at n text i) (record_full n text) e
@@ -134,17 +191,17 @@ record_full (suc n) text i j e = by (cell_at n text i) (record_full n text) e
     next : ℕ → ℕ → Fields
     next v k = record { values = v ∷ (record_at n text k).values; end = (record_at n text k).end }
 
-    by : (c : Cell) → ((k j : ℕ) → (record_at n text k).end ≡ end.Next j → length (record_at n text k).values ≡ n)
-        → (on_cell c next).end ≡ end.Next j → length (on_cell c next).values ≡ suc n
-    by (cell.Number v k) ih e = ap suc (ih k j e)
-    by cell.Malformed ih e = let z : ◌≡◌ {A = ℕ} 0 1 = cc in absurd (omega arith)
+    by : (c : Option (ℕ × ℕ)) → ((k j : ℕ) → (record_at n text k).end ≡ Some j → length (record_at n text k).values ≡ n)
+        → (on_cell c next).end ≡ Some j → length (on_cell c next).values ≡ suc n
+    by (Some (v, k)) ih e = ap suc (ih k j e)
+    by None ih e = cc
 
 pub recorded_all :
-    {text out out' : List ℕ} {at : ℕ} {r : End}
+    {text out out' : List ℕ} {at : ℕ} {r : Option ℕ}
     → Recorded text at out r out'
     → (j : ℕ)
-    → r ≡ end.Next j
-    → (record_at (length out) text at ≡ record { values = out'; end = end.Next j }) × (length out' ≡ length out)
+    → r ≡ Some j
+    → (record_at (length out) text at ≡ record { values = out'; end = Some j }) × (length out' ≡ length out)
 recorded_all {text} {out} {out'} {at} w j e =
     let f = sym w.end ∙ e in
     let l = record_full (length out) text at j f in

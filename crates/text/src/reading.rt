@@ -1,81 +1,59 @@
 // Reading: the numbers of a record, from a place of a text on.
-ghost use Rattle.std.specs.Prelude.{◌<◌, ◌≡◌};
-ghost use Rattle.text.specs.Reading.{ByteAt, number_at, followed, field_at, cell_at, line_end, starts, after_line, Recorded};
+ghost use Rattle.std.specs.Prelude.{◌<◌, ◌^◌, ◌≡◌, SomeIff, drop, length};
+ghost use Rattle.std.specs.List.{prefix_len};
+ghost use Rattle.std.specs.Char.{is_ascii_digit};
+ghost use Rattle.lists.specs.Places.{Every};
+ghost use Rattle.text.specs.Format.{Digit, value};
+ghost use Rattle.text.specs.Reading.{number_at, followed, field_at, cell_at, line_end, after_line, Recorded};
 
-// A field's number and where its text ends.
-#[derive(Drop)]
-enum Cell {
-    Number(u32, usize),
-    Malformed,
-}
-
-// Where the next line begins.
-#[derive(Drop)]
-pub enum End {
-    Next(usize),
-    Missing,
-}
-
-// The byte at i; past the end 0, so that no test for a byte has to ask for the end first.
-fn byte_at(text: &[u8], i: usize) -> u8
-    ensures { ByteAt text.now i result }
+// How many digits a text begins with.
+fn leading_digits(text: &[u8]) -> usize
+    ensures { result ≡ prefix_len is_ascii_digit text.now }
 {
-    if i < text.len() { text[i] } else { 0 }
+    text.iter().take_while(|b| b.is_ascii_digit()).count()
 }
 
-fn wide(b: u8) -> u64
-    ensures { result ≡ b }
+// The value of a run of digits, if it is a 32-bit number. From a value too great on, it only grows.
+fn value_of(digits: &[u8]) -> Option<u32>
+    requires { Every Digit digits.now }
+    ensures { SomeIff result (value digits.now < 2 ^ 32) (value digits.now) }
 {
-    b as u64
+    let mut value: u32 = 0;
+    for d in digits {
+        value = value.checked_mul(10)?.checked_add(u32::from(*d - b'0'))?;
+    }
+    Some(value)
 }
 
-// The number that begins at `at`. It stops at an 11th digit and at a value too great, which only grow from there.
-fn number_at(text: &[u8], at: usize) -> Cell
+// The number that begins at `at`, 1 to 10 digits, and where its text ends.
+fn number_at(text: &[u8], at: usize) -> Option<(u32, usize)>
     ensures { result ≡ number_at text.now at }
 {
-    let mut value: u64 = 0;
-    let mut count: usize = 0;
-    let mut i = at;
-    while i < text.len() {
-        let b = text[i];
-        if (b < 48) | (57 < b) {
-            break;
-        }
-        if 10 <= count {
-            return Cell::Malformed;
-        }
-        value = value * 10 + (wide(b) - 48);
-        count += 1;
-        i += 1;
-        if 4_294_967_295 < value {
-            return Cell::Malformed;
-        }
+    let rest = text.get(at..)?;
+    let count = leading_digits(rest);
+    if !(1..=10).contains(&count) {
+        return None;
     }
-    if count < 1 {
-        return Cell::Malformed;
-    }
-    Cell::Number(value as u32, i)
+    Some((value_of(&rest[..count])?, at + count))
 }
 
-// The same number, if this byte stands behind it.
-fn followed(text: &[u8], b: u8, cell: Cell) -> Cell
+// The same number, if this byte stands behind it. Past the end of a text stands none.
+fn followed(text: &[u8], b: u8, cell: Option<(u32, usize)>) -> Option<(u32, usize)>
     requires { 0 < b }
     ensures { result ≡ followed text.now b cell }
 {
-    let Cell::Number(value, next) = cell else {
-        return Cell::Malformed;
-    };
-    if byte_at(text, next) == b {
-        return Cell::Number(value, next + 1);
+    let (value, next) = cell?;
+    if text.get(next) != Some(&b) {
+        return None;
     }
-    Cell::Malformed
+    Some((value, next + 1))
 }
 
 // A field: a number, bare or in double quotes.
-fn field_at(text: &[u8], at: usize) -> Cell
+fn field_at(text: &[u8], at: usize) -> Option<(u32, usize)>
     ensures { result ≡ field_at text.now at }
 {
-    if byte_at(text, at) == b'"' {
+    if text.get(at) == Some(&b'"') {
         followed(text, b'"', number_at(text, at + 1))
     } else {
         number_at(text, at)
@@ -83,7 +61,7 @@ fn field_at(text: &[u8], at: usize) -> Cell
 }
 
 // A field that `left` more follow in its record: with the comma behind it, if it is not the last.
-fn cell_at(text: &[u8], at: usize, left: usize) -> Cell
+fn cell_at(text: &[u8], at: usize, left: usize) -> Option<(u32, usize)>
     ensures { result ≡ cell_at left text.now at }
 {
     let field = field_at(text, at);
@@ -94,60 +72,39 @@ fn cell_at(text: &[u8], at: usize, left: usize) -> Cell
 }
 
 // Where the next line begins, if a line ends at `at`.
-fn line_end(text: &[u8], at: usize) -> End
+fn line_end(text: &[u8], at: usize) -> Option<usize>
     ensures { result ≡ line_end text.now at }
 {
     if text.len() <= at {
-        return End::Next(at);
+        return Some(at);
     }
-    if (byte_at(text, at) == b'\r') & (byte_at(text, at + 1) == b'\n') {
-        return End::Next(at + 2);
+    if text[at..].starts_with(b"\r\n") {
+        return Some(at + 2);
     }
-    End::Missing
+    None
 }
 
-// A record: as many fields as `out` has places, parted by commas, and the line's end. From a malformed field on nothing
-// is read, and `out` stays as it was. A text may be handed on whole or line by line.
-pub fn record_at(text: &[u8], at: usize, out: &mut [u32]) -> End
+// A record: as many fields as `out` has places, parted by commas, and the line's end. Answers where the next line begins.
+// From a malformed field on nothing is read, and `out` stays as it was. A text may be handed on whole or line by line.
+pub fn record_at(text: &[u8], at: usize, out: &mut [u32]) -> Option<usize>
     ensures { Recorded text.now at out.old result out.new }
 {
     let mut i = at;
-    let mut k = 0;
-    while k < out.len() {
-        let Cell::Number(value, next) = cell_at(text, i, out.len() - k - 1) else {
-            return End::Missing;
-        };
+    for k in 0..out.len() {
+        let (value, next) = cell_at(text, i, out.len() - k - 1)?;
         out[k] = value;
-        k += 1;
         i = next;
     }
     line_end(text, i)
 }
 
-// Whether a text starts with a word.
-fn starts(text: &[u8], word: &[u8]) -> bool
-    ensures { result ≡ starts word.now text.now }
-{
-    let mut i = 0;
-    while i < word.len() {
-        if text.len() <= i {
-            return false;
-        }
-        if text[i] != word[i] {
-            return false;
-        }
-        i += 1;
-    }
-    true
-}
-
 // Where the second line begins, if the first is this word.
-pub fn after_line(text: &[u8], word: &[u8]) -> End
+pub fn after_line(text: &[u8], word: &[u8]) -> Option<usize>
     ensures { result ≡ after_line word.now text.now }
 {
-    if starts(text, word) {
+    if text.starts_with(word) {
         line_end(text, word.len())
     } else {
-        End::Missing
+        None
     }
 }

@@ -1,5 +1,7 @@
 // Writing: text put into a list of bytes from a place on, as much of it as there is room for. Each function answers the
 // place behind what it wrote.
+// Kept so: list and place are two parameters (d); a struct that holds the lent list needs a clause more in each function,
+// that it still is the caller's list.
 ghost use Rattle.std.specs.Prelude.{[], ◌∷◌};
 ghost use Rattle.text.specs.Writing.{figures, cell_text, line_text, Wrote};
 
@@ -18,10 +20,8 @@ pub fn put_text(out: &mut [u8], at: usize, word: &[u8]) -> usize
     ensures { Wrote out.old at word.now out.new result }
 {
     let mut end = at;
-    let mut i = 0;
-    while i < word.len() {
-        end = put_byte(out, end, word[i]);
-        i += 1;
+    for b in word {
+        end = put_byte(out, end, *b);
     }
     end
 }
@@ -34,10 +34,10 @@ fn put_figures(out: &mut [u8], at: usize, x: u32, places: usize) -> usize
         return at;
     }
     if x < 10 {
-        return put_byte(out, at, 48 + (x as u8));
+        return put_byte(out, at, b'0' + (x as u8));
     }
     let end = put_figures(out, at, x / 10, places - 1);
-    put_byte(out, end, 48 + ((x % 10) as u8))
+    put_byte(out, end, b'0' + ((x % 10) as u8))
 }
 
 // A field that `left` more follow in its record: with the comma behind it, or the line's end if it is the last.
@@ -56,10 +56,8 @@ pub fn put_record(out: &mut [u8], at: usize, values: &[u32]) -> usize
     ensures { Wrote out.old at (line_text values.now) out.new result }
 {
     let mut end = at;
-    let mut i = 0;
-    while i < values.len() {
-        end = put_cell(out, end, values[i], values.len() - i - 1);
-        i += 1;
+    for (i, x) in values.iter().enumerate() {
+        end = put_cell(out, end, *x, values.len() - i - 1);
     }
     end
 }

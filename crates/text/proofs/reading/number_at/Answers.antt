@@ -1,75 +1,28 @@
--- `number_at` meets its contract: at each turn the digits that are left decide the whole number.
-use Prim.Native.Nat.{ℕ, ◌+◌, ◌*◌, ◌-◌, ◌<◌, ◌≤◌}
-use mathlib.Core.Path.{◌≡◌, refl, sym, ap, ◌∙◌}
-use mathlib.Core.Bool.{false, ◌||◌}
-use mathlib.Core.List.{List}
-use lib.Dec.{ltb}
+-- `number_at` meets its contract: the run of digits says whether a number begins here.
+use mathlib.Core.Path.{◌≡◌, sym}
 use native.Mathlib.Omega.{arith}
-use borrow.Author.Tests.{le-leb, lt-leb}
-use lib.ListN.{length, drop, get_or}
-use Rattle.lists.proofs.Cases.{tests}
-use Rattle.text.specs.Reading.{digits, number, number_at}
-use Rattle.text.proofs.Scanning.{digit, too_long, too_great, digits_end, digits_stop, digits_more}
+use Rattle.std.proofs.lemmas.Grind.{common_steps}
+use Rattle.text.specs.Format.{value}
+use Rattle.text.proofs.Scanning.{run, run_digits, number_past, number_length, number_great, number_is}
 use Rattle.text.proofs.reading.number_at.Goals as goal
-use Rattle.text.proofs.reading.number_at.Goals.{else-loop-i-test, then-loop-i-test+then-b}
 
-digit-of : (c : goal.After-wide) → (48 ≤ c.wide.result) × (c.wide.result ≤ 57)
-digit-of c = rw c.wide.ensures (digit _ c.if-b.false)
+pub returns-in_err-rest : goal.returns-in_err-rest
+returns-in_err-rest c =
+    rw c.from_residual.ensures (sym (number_past _ _ (grind (arith, common_steps))))
 
--- After one more digit the rest decides the number still.
-more :
-    (text : List ℕ) (at v n i b : ℕ)
-    → number (digits v n i (drop i text)) ≡ number_at text at
-    → i < length text
-    → (ltb (get_or text i 0) 48 || ltb 57 (get_or text i 0)) ≡ false
-    → b ≡ get_or text i 0
-    → number_at text at ≡ number (digits (v * 10 + (b - 48)) (n + 1) (i + 1) (drop (i + 1) text))
-more text at v n i b q h d e = sym q ∙ rw e (ap number (digits_more text v n i h d))
+pub returns-then-not-contains : goal.returns-then-not-contains
+returns-then-not-contains c =
+    sym (number_length _ _ c.in_ok-rest.ensures.lookup.0.2 (λ h. grind (arith, common_steps)))
 
-pub loop-i-init : goal.loop-i-init
-loop-i-init c = (omega arith, omega arith, refl)
+pub value_of-requires : goal.value_of-requires
+value_of-requires c = rw (c.leading_digits-count.ensures) (run_digits c.in_ok-rest.rest.now)
 
-pub returns-then-count-ge10 : goal.returns-then-count-ge10
-returns-then-count-ge10 c =
-    sym
-    (sym c.loop-i.invariant.2
-    ∙ ap number (digits_more c.args.text.now _ _ _ c.loop-i-test.true c.if-b.false)
-    ∙ too_long _ _ _ _ (omega tests))
-
-pub overflow_sub-value : goal.overflow_sub-value
-overflow_sub-value c = let d = digit-of c in omega arith
-
-pub overflow_add-value : goal.overflow_add-value
-overflow_add-value c = let d = digit-of c in omega arith
-
-pub returns-then-value-gt4294967295 : goal.returns-then-value-gt4294967295
-returns-then-value-gt4294967295 c = sym (more _ _ _ _ _ _ c.loop-i.invariant.2 c.loop-i-test.true c.if-b.false c.wide.ensures ∙ too_great _ _ _ _ c.if-value-gt4294967295.true)
-
-pub loop-i-preserved : goal.loop-i-preserved
-loop-i-preserved c = (omega tests, omega tests, sym (more _ _ _ _ _ _ c.loop-i.invariant.2 c.loop-i-test.true c.if-b.false c.wide.ensures))
-
-pub returns-then-count-lt1 : goal.returns-then-count-lt1
-unfolding number
-returns-then-count-lt1 c =
-    let left :
-    digits c.loop-i.value c.loop-i.count c.loop-i.i (drop c.loop-i.i c.args.text.now)
-    ≡ record { value = c.loop-i.value; count = c.loop-i.count; end = c.loop-i.i } =
-    elim c.loop-i-test.branch [
-      | else-loop-i-test w ↦ digits_end c.args.text.now _ _ _ w.loop-i-test.false
-      | then-loop-i-test+then-b w ↦ digits_stop c.args.text.now _ _ _ w.loop-i-test.true w.if-b.true
-    ]
-    in
-    sym (sym c.loop-i.invariant.2 ∙ ap number left ∙ simp (lt-leb _ _ c.if-count-lt1.true))
+pub returns-in_err-value_of : goal.returns-in_err-value_of
+returns-in_err-value_of c =
+    rw c.from_residual-in_err-value_of.ensures (sym (number_great _ _ c.in_ok-rest.ensures.lookup.0.2 (grind (arith, common_steps))))
 
 pub returns : goal.returns
-unfolding number
 returns c =
-    let left :
-    digits c.loop-i.value c.loop-i.count c.loop-i.i (drop c.loop-i.i c.args.text.now)
-    ≡ record { value = c.loop-i.value; count = c.loop-i.count; end = c.loop-i.i } =
-    elim c.loop-i-test.branch [
-      | else-loop-i-test w ↦ digits_end c.args.text.now _ _ _ w.loop-i-test.false
-      | then-loop-i-test+then-b w ↦ digits_stop c.args.text.now _ _ _ w.loop-i-test.true w.if-b.true
-    ]
-    in
-    sym (sym c.loop-i.invariant.2 ∙ ap number left ∙ simp (le-leb _ _ c.if-count-lt1.false, le-leb _ _ c.loop-i.invariant.1, le-leb _ _ c.loop-i.invariant.0))
+    let e = c.in_ok-rest.ensures.lookup.0.2 in
+    let v : c.in_ok-value_of.field-0 ≡ value (run c.in_ok-rest.rest.now) = rw c.leading_digits-count.ensures at c.in_ok-value_of.ensures.1 in
+    rw (c.leading_digits-count.ensures, v) (sym (number_is _ _ e (grind (arith, common_steps)) (grind (arith, common_steps)) (grind (arith, common_steps))))

@@ -1,12 +1,6 @@
 -- `put_record` meets its contract: at each turn what is written and what is left make the whole line.
-use Prim.Native.Nat.{◌-◌}
-use mathlib.Core.Path.{◌≡◌}
-use lib.ListN.{length}
 use Rattle.text.proofs.Stored.{Begun}
 use Rattle.text.proofs.writing.put_record.Given as goal
 
 abbrev pub invariant-loop-i : goal.invariant-loop-i
-invariant-loop-i l = (length l.out ≡ length l.initial.out) × Begun l.values l.initial.out l.at l.out l.end l.i
-
-abbrev pub decreases-loop-i : goal.decreases-loop-i
-decreases-loop-i l = length l.values - l.i
+invariant-loop-i l = Begun l.values l.initial.out l.at l.out l.end l.i
