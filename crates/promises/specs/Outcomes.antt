@@ -6,7 +6,7 @@
 --   OneAssign, OneSimulate, OneRun, OneCheck, OneTable, OneCritical, OneRoom, OneDoorAssign, OneDoorCheck, OneDoorCritical,
 --   OneDoorRoom   == two outcomes that the contract of an entry allows are equal
 --   OneJudge, OneLengths, OneTell, OneRecord, OneAfterLine, OneWrite == the same of the functions that the entries share
-use Rattle.std.specs.Prelude.{ℕ, Bool, List, ◌≢◌, ◌≡◌, length}
+use Rattle.std.specs.Prelude.{ℕ, Bool, List, Option, ◌≢◌, ◌≡◌, length}
 use Rattle.subjobs.specs.declared.Judgement.{Judgement}
 use Rattle.subjobs.specs.declared.Reason.{Reason}
 use Rattle.subjobs.specs.declared.Told.{Told}
@@ -23,7 +23,6 @@ use Rattle.edf.specs.declared.Totals.{Totals}
 use Rattle.edf.specs.Answers as edf
 use Rattle.checker.specs.declared.Answer as checking
 use Rattle.checker.specs.Answers as checker
-use Rattle.text.specs.declared.reading.End.{End}
 use Rattle.text.specs.Reading.{after_line, Recorded}
 use Rattle.text.specs.Writing.{Wrote}
 use Rattle.table.specs.Answers as table
@@ -167,13 +166,13 @@ OneTell = (reason : Reason) (r q : Told) → r ≡ tell reason → q ≡ tell re
 
 abbrev pub OneRecord : Type 0
 OneRecord =
-    (text : List ℕ) (at : ℕ) (out new other : List ℕ) (r q : End)
+    (text : List ℕ) (at : ℕ) (out new other : List ℕ) (r q : Option ℕ)
     → Recorded text at out r new
     → Recorded text at out q other
     → (r ≡ q) × (new ≡ other)
 
 abbrev pub OneAfterLine : Type 0
-OneAfterLine = (w text : List ℕ) (r q : End) → r ≡ after_line w text → q ≡ after_line w text → r ≡ q
+OneAfterLine = (w text : List ℕ) (r q : Option ℕ) → r ≡ after_line w text → q ≡ after_line w text → r ≡ q
 
 abbrev pub OneWrite : Type 0
 OneWrite =
