@@ -5,8 +5,8 @@ use std::io::{self, Read};
 
 // Reads standard input to its end or until the room is full, and answers how many bytes came; or the error, if a read
 // failed. What came before a read that failed may be the beginning of a table only.
-// Kept so: no method of std counts what came into a room (d), and `read_to_end` asks again where a read was interrupted,
-// while `serve` then ends with its line on standard error, which may not change (a).
+// Kept so: no method of std counts what came into a room (d); `read_to_end` reads again where a read was interrupted,
+// and `serve` then ends with its line on standard error, which may not change (a).
 fn fill(rt: &HostRuntime, room: &mut [u8]) -> io::Result<usize>
     ensures { IfOk result (λ n. n ≤ length room.new) }
 {

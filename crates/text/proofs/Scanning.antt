@@ -55,8 +55,11 @@ run bs = take_while is_ascii_digit bs
 is_digit : (b : ℕ) → (ltb b 48 || ltb 57 b) ≡ false → is_ascii_digit b ≡ true
 is_digit b e = let d = digit b e in rw (le-leb 48 b d.0, le-leb b 57 d.1)
 
-is_none : (b : ℕ) → (ltb b 48 || ltb 57 b) ≡ true → is_ascii_digit b ≡ false
-is_none b e = test (is_ascii_digit b) (λ t. let q = both t in clash e (rw (le-ltb b 48 (leb-true _ _ q.0), le-ltb 57 b (leb-true _ _ q.1)))) (λ t. t)
+no_digit : (b : ℕ) → (ltb b 48 || ltb 57 b) ≡ true → is_ascii_digit b ≡ false
+no_digit b e =
+    test (is_ascii_digit b)
+    (λ t. let q = both t in clash e (rw (le-ltb b 48 (leb-true _ _ q.0), le-ltb 57 b (leb-true _ _ q.1))))
+    (λ t. t)
 
 run_more : (b : ℕ) (bs : List ℕ) → (ltb b 48 || ltb 57 b) ≡ false → run (b ∷ bs) ≡ b ∷ run bs
 run_more b bs e = take_while-cons is_ascii_digit b bs ∙ rw (is_digit b e)
@@ -64,7 +67,7 @@ run_more b bs e = take_while-cons is_ascii_digit b bs ∙ rw (is_digit b e)
 pub run_digits : (bs : List ℕ) → Every Digit (run bs)
 run_digits [] = tt
 run_digits (b ∷ bs) =
-    test (ltb b 48 || ltb 57 b) (λ e. rw (is_none b e) tt) (λ e. rw (run_more b bs e) (digit b e, run_digits bs))
+    test (ltb b 48 || ltb 57 b) (λ e. rw (no_digit b e) tt) (λ e. rw (run_more b bs e) (digit b e, run_digits bs))
 
 digits_run :
     (v n i : ℕ) (bs : List ℕ)
@@ -72,7 +75,7 @@ digits_run :
 unfolding digits value_from
 digits_run v n i [] = rw (add-zero n, add-zero i)
 digits_run v n i (b ∷ bs) =
-    test (ltb b 48 || ltb 57 b) (λ e. rw (e, is_none b e, add-zero n, add-zero i))
+    test (ltb b 48 || ltb 57 b) (λ e. rw (e, no_digit b e, add-zero n, add-zero i))
     (λ e.
     let c : n + 1 + length (run bs) ≡ n + suc (length (run bs)) = omega arith in
     let j : i + 1 + length (run bs) ≡ i + suc (length (run bs)) = omega arith in
@@ -112,7 +115,7 @@ module _ (text : List ℕ) (i : ℕ) {rest : List ℕ} (e : rest ≡ between i (
   unfolding number
   number_is a b c = rw (at_run, le-leb _ _ a, le-leb _ _ b, le-leb _ _ c)
 
--- Words: what std's test says, byte by byte.
+-- What std's test of a beginning says, byte by byte.
 flip : (a b : ℕ) → eqb a b ≡ eqb b a
 flip a b = test (eqb b a) (λ e. rw e (eq-eqb a b (sym (eqb-true b a e)))) (λ e. rw e (ne_eqb a b (λ q. eqb-false b a e (sym q))))
 

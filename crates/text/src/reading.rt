@@ -1,4 +1,5 @@
 // Reading: the numbers of a record, from a place of a text on.
+// Kept so: text and place are two parameters (d), since `record_at` and the definitions go by the place of a byte.
 ghost use Rattle.std.specs.Prelude.{◌<◌, ◌^◌, ◌≡◌, SomeIff, drop, length};
 ghost use Rattle.std.specs.List.{prefix_len};
 ghost use Rattle.std.specs.Char.{is_ascii_digit};
@@ -84,8 +85,9 @@ fn line_end(text: &[u8], at: usize) -> Option<usize>
     None
 }
 
-// A record: as many fields as `out` has places, parted by commas, and the line's end. Answers where the next line begins.
-// From a malformed field on nothing is read, and `out` stays as it was. A text may be handed on whole or line by line.
+// A record: as many fields as `out` has places, parted by commas, and the line's end. It answers where the next line
+// begins. From a malformed field on nothing is read, and `out` stays as it was. A text may be handed on whole or line by
+// line.
 pub fn record_at(text: &[u8], at: usize, out: &mut [u32]) -> Option<usize>
     ensures { Recorded text.now at out.old result out.new }
 {
