@@ -4,7 +4,7 @@ use mathlib.Core.Bool.{Bool, true, false, cond}
 use mathlib.Core.List.{List}
 use mathlib.Core.Logic.{◌⊎◌}
 use mathlib.Core.Option.{some}
-use mathlib.Core.Path.{◌≡◌, sym, ap, ◌∙◌}
+use mathlib.Core.Path.{◌≡◌, refl, sym, ◌∙◌}
 use native.Mathlib.Numerals.{add-one}
 use native.Mathlib.Omega.{arith}
 use borrow.Author.Tests.{lt-ltb, le-ltb}
@@ -21,13 +21,12 @@ use Rattle.olda.specs.Parts.{at, limits, lower_by, Known, Choosing, Chosen, Repo
 
 -- Of the first i of xs p is chosen: against those left it is the choice of all.
 pub record Ahead (lt : ℕ → ℕ → Bool) (xs : List ℕ) (p i : ℕ) : Type 0 where
-  pub within : i ≤ length xs
   pub same : choose lt xs ≡ some (ahead lt p (drop i xs))
 
 module _ (lt : ℕ → ℕ → Bool) (xs : List ℕ) where
   ahead_first : 0 < length xs → Ahead lt xs (at xs 0) 1
   unfolding choose
-  ahead_first h = record { within = omega arith; same = rw (drop-cons xs 0 0 h) }
+  ahead_first h = record { same = rw (drop-cons xs 0 0 h) }
 
   module _ {p i : ℕ} (a : Ahead lt xs p i) where
     module _ (h : i < length xs) where
@@ -36,10 +35,10 @@ module _ (lt : ℕ → ℕ → Bool) (xs : List ℕ) where
       step = rw add-one (rw (drop-cons xs i 0 h) at a.same)
 
       ahead_new : lt (at xs i) p ≡ true → Ahead lt xs (at xs i) (i + 1)
-      ahead_new t = record { within = omega arith; same = rw t at step }
+      ahead_new t = record { same = rw t at step }
 
       ahead_old : lt (at xs i) p ≡ false → Ahead lt xs p (i + 1)
-      ahead_old t = record { within = omega arith; same = rw t at step }
+      ahead_old t = record { same = rw t at step }
 
     ahead_all : length xs ≤ i → choose lt xs ≡ some p
     unfolding ahead
@@ -58,51 +57,36 @@ module _ (us js ks : List ℕ) (p q : ℕ) where
 
 -- The base sub-job of the first i of xs stands at k, and its bound is `top`.
 pub record Topped (xs us js ks : List ℕ) (k top i : ℕ) : Type 0 where
-  pub asked : Choosing xs us js ks
   pub inside : k < length xs
   pub bound : top ≡ at us (at xs k)
   pub best : Ahead (reversed (lower_by us js ks)) xs (at xs k) i
 
-module _ {xs us js ks : List ℕ} (a : Choosing xs us js ks) {p : ℕ} (e : p ≡ at xs 0) where
-  pub topped_first : p < length us
-  topped_first = rw e (every_at (Known us js ks) xs 0 a.some a.each).bound
-
-  pub topped_one : Topped xs us js ks 0 (at us p) 1
-  topped_one =
-      record { asked = a; inside = a.some; bound = ap (at us) e; best = ahead_first (reversed (lower_by us js ks)) xs a.some }
+pub topped_one : {xs us js ks : List ℕ} → Choosing xs us js ks → Topped xs us js ks 0 (at us (at xs 0)) 1
+topped_one {xs} {us} {js} {ks} a =
+    record { inside = a.some; bound = refl; best = ahead_first (reversed (lower_by us js ks)) xs a.some }
 
 module _ {xs us js ks : List ℕ} {k top i : ℕ} (t : Topped xs us js ks k top i) where
-  -- The place found so far and the next one are known.
-  pub topped_held : {q : ℕ} → q ≡ at xs k → Known us js ks q
-  topped_held e = rw e (every_at (Known us js ks) xs k t.inside t.asked.each)
-
-  module _ {p : ℕ} (h : i < length xs) (e : p ≡ at xs i) where
-    pub topped_next : Known us js ks p
-    topped_next = rw e (every_at (Known us js ks) xs i h t.asked.each)
-
-    pub topped_bound : p < length us
-    topped_bound = topped_next.bound
-
+  module _ (h : i < length xs) where
     pub topped_new :
-        (top < at us p) ⊎ ((top ≡ at us p) × (by_pair (at js) (at ks) (at xs k) p ≡ true)) → Topped xs us js ks i (at us p) (i + 1)
+        (top < at us (at xs i)) ⊎ ((top ≡ at us (at xs i)) × (by_pair (at js) (at ks) (at xs k) (at xs i) ≡ true))
+        → Topped xs us js ks i (at us (at xs i)) (i + 1)
     topped_new w =
         record {
-          asked = t.asked;
           inside = h;
-          bound = ap (at us) e;
+          bound = refl;
           best = ahead_new (reversed (lower_by us js ks)) xs t.best h
-              (split (rw (t.bound, e) at w) (λ l. lower_more us js ks _ _ l) (λ l. lower_same us js ks _ _ l.0 ∙ l.1));
+              (split (rw t.bound at w) (λ l. lower_more us js ks _ _ l) (λ l. lower_same us js ks _ _ l.0 ∙ l.1));
         }
 
     pub topped_old :
-        (at us p < top) ⊎ ((top ≡ at us p) × (by_pair (at js) (at ks) (at xs k) p ≡ false)) → Topped xs us js ks k top (i + 1)
+        (at us (at xs i) < top) ⊎ ((top ≡ at us (at xs i)) × (by_pair (at js) (at ks) (at xs k) (at xs i) ≡ false))
+        → Topped xs us js ks k top (i + 1)
     topped_old w =
         record {
-          asked = t.asked;
           inside = t.inside;
           bound = t.bound;
           best = ahead_old (reversed (lower_by us js ks)) xs t.best h
-              (split (rw (t.bound, e) at w) (λ l. lower_less us js ks _ _ l) (λ l. lower_same us js ks _ _ l.0 ∙ l.1));
+              (split (rw t.bound at w) (λ l. lower_less us js ks _ _ l) (λ l. lower_same us js ks _ _ l.0 ∙ l.1));
         }
 
   pub topped_all : length xs ≤ i → Chosen xs us js ks k
@@ -110,19 +94,15 @@ module _ {xs us js ks : List ℕ} {k top i : ℕ} (t : Topped xs us js ks k top 
 
 -- The least slack of the first i places is that of p.
 pub record Tight (ds zs ls : List ℕ) (p i : ℕ) : Type 0 where
-  pub asked : Reporting ds zs ls
   pub inside : p < length ls
-  pub within : i ≤ length ls
   pub best : Ahead (by_slack (limits ds zs) (at ls)) (places (length ls)) p i
 
-pub tight_one : {ds zs ls : List ℕ} → Reporting ds zs ls → 0 < length ls → Tight ds zs ls 0 1
-tight_one {ds} {zs} {ls} a h =
+pub tight_one : {ds zs ls : List ℕ} → 0 < length ls → Tight ds zs ls 0 1
+tight_one {ds} {zs} {ls} h =
     let n = length ls in
     let l = from-length 0 n in
     record {
-      asked = a;
       inside = h;
-      within = omega arith;
       best = rw (places_at n 0 h) at (ahead_first (by_slack (limits ds zs) (at ls)) (places n) (omega arith));
     }
 
@@ -135,18 +115,14 @@ module _ {ds zs ls : List ℕ} {p i : ℕ} (t : Tight ds zs ls p i) where
     tight_new y =
         let z = places_at (length ls) i h in
         record {
-          asked = t.asked;
           inside = h;
-          within = omega arith;
           best = rw z at (ahead_new (by_slack (limits ds zs) (at ls)) (places (length ls)) t.best here (rw z (sym e ∙ y)));
         }
 
     pub tight_old : r ≡ false → Tight ds zs ls p (i + 1)
     tight_old y =
         record {
-          asked = t.asked;
           inside = t.inside;
-          within = omega arith;
           best = ahead_old (by_slack (limits ds zs) (at ls)) (places (length ls)) t.best here (rw (places_at (length ls) i h) (sym e ∙ y));
         }
 

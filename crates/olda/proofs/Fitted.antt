@@ -1,10 +1,10 @@
--- A set that fits, in room that is lent: what the parts ask of it holds, and what they tell is the method's outcome.
+-- A set that fits, in room that is large enough: what the steps ask of it holds, and what they tell is the method's outcome.
 use Prim.Native.Nat.{ℕ, ◌<◌, ◌≤◌}
+use mathlib.Core.Bool.{Bool}
 use mathlib.Core.List.{List}
 use mathlib.Core.Path.{◌≡◌, refl, sym, ap, ◌∙◌}
 use native.Mathlib.Omega.{arith}
-use borrow.Author.Tests.{eqb-true}
-use lib.ListN.{length, take, replicate}
+use lib.ListN.{length, take, replicate, length-replicate}
 use lib.IntN.{ℤ}
 use Rattle.lists.specs.Places.{places}
 use Rattle.lists.proofs.Members.{in_every, from-length}
@@ -15,12 +15,13 @@ use Rattle.subjobs.specs.declared.Reason.{Reason}
 use Rattle.subjobs.specs.declared.Reason.TheVariants.{Late}
 use Rattle.subjobs.specs.Sets.{Subjobs, size, release}
 use Rattle.subjobs.specs.Terms.{Terms, terms}
+use Rattle.subjobs.specs.Faults.{Fit}
 use Rattle.subjobs.proofs.Fit.{refused_passed}
 use Rattle.rules.specs.Method.{Outcome, placed, stuck, in_order, method}
 use Rattle.rules.proofs.AllPlaces.{in_order_below}
 use Rattle.rules.proofs.ReleaseOrder.{in_order-below, nodup_in_order}
 use Rattle.olda.specs.Answers.{written}
-use Rattle.olda.specs.Parts.{raised, Raised, ruling, Raising, Ranged, Placing, stepped, Placed, Room, Places}
+use Rattle.olda.specs.Parts.{raised, Raised, ruling, Ranged, Placing, stepped, Placed, Places}
 use Rattle.olda.proofs.Raised.{raised_signed, raised-steps}
 use Rattle.olda.proofs.Results.{fit_inside}
 
@@ -33,27 +34,11 @@ refused_list : (T : Terms) (w : Outcome) (a : List ℕ) (q : Reason) → Refused
 refused_list T (placed ds) a q e = refused_passed q e
 refused_list T (stuck p m) a q e = refl
 
-module _ {s : Subjobs} {out us ls os es : List ℕ} (m : Room s out us ls os es) where
-  pub room_raising : Raising s.deadlines s.criticals us
-  room_raising =
-      let l = m.fit.lengths in
-      record {
-        criticals = l.criticals ∙ sym l.deadlines;
-        room = omega (arith, l.deadlines, m.bounds);
-        least = λ i h. (m.fit.ranges i (omega (arith, l.deadlines))).critical;
-        most = λ i h. (m.fit.ranges i (omega (arith, l.deadlines))).deadline;
-      }
-
-  room_long : length out ≡ size s
-  room_long = eqb-true (length out) (size s) m.fit.lengths.further
-
-  pub room_copying : length out ≤ length ls
-  room_copying = omega (arith, room_long, m.local)
-
+module _ {s : Subjobs} {others : Bool} (f : Fit s others) (room : ℕ) (enough : size s ≤ room) where
   ranged : (i : ℕ) → i < length s.releases → Ranged s.releases s.executions i
   ranged i h =
-      let l = m.fit.lengths in
-      let q = m.fit.ranges i (omega (arith, l.releases)) in
+      let l = f.lengths in
+      let q = f.ranges i (omega (arith, l.releases)) in
       record {
         inside = h;
         known = omega (arith, l.releases, l.executions);
@@ -62,67 +47,66 @@ module _ {s : Subjobs} {out us ls os es : List ℕ} (m : Room s out us ls os es)
         execution = q.execution;
       }
 
-  module _ {os' : List ℕ} (so : take (length s.releases) os' ≡ in_order (release s) (places (length s.releases))) where
-    pub room_placing :
-        {us' : List ℕ}
-        → size s ≤ length us'
-        → size s ≤ length os'
-        → Placing s.jobs s.subtasks s.releases s.executions us' os' es ls (length s.releases)
-    room_placing u o =
-        let l = m.fit.lengths.releases in
+  module _ {os : List ℕ} (so : take (length s.releases) os ≡ in_order (release s) (places (length s.releases))) where
+    pub fit_placing :
+        {us : List ℕ}
+        → length us ≡ room
+        → length os ≡ room
+        → Placing s.jobs s.subtasks s.releases s.executions us os (replicate room 0) (replicate room 0) (length s.releases)
+    fit_placing u o =
+        let l = f.lengths.releases in
         let n = length s.releases in
         record {
-          size = omega (arith, m.fit.few);
+          size = omega (arith, f.few);
           jobs = omega arith;
-          subtasks = omega (arith, m.fit.lengths.subtasks);
+          subtasks = omega (arith, f.lengths.subtasks);
           bounds = omega arith;
-          local = omega (arith, m.local);
+          local = omega (arith, length-replicate {A = ℕ} room 0);
           order = omega arith;
-          ends = omega (arith, m.ends);
-          few = omega (arith, m.fit.few);
+          ends = omega (arith, length-replicate {A = ℕ} room 0);
+          few = omega (arith, f.few);
           each = rw so (in_every (Ranged s.releases s.executions) (in_order (release s) (places n)) (λ i k. ranged i (in_order-below (release s) n k)));
           once = rw so (nodup_in_order (release s) n);
         }
 
     module _
-        {us' ls' : List ℕ}
+        {us ls : List ℕ}
         {r : Judgement}
-        (up : Raised (terms s) (length s.deadlines) us')
-        (p : Placed s.jobs s.subtasks s.releases s.executions us' os' ls (length s.releases) r ls')
+        (up : Raised (terms s) (length s.deadlines) us)
+        (p : Placed s.jobs s.subtasks s.releases s.executions us os (replicate room 0) (length s.releases) r ls)
       where
-        raised_all : Raised (terms s) (size s) us'
-        raised_all i h = up i (omega (arith, m.fit.lengths.deadlines))
+        raised_all : Raised (terms s) (size s) us
+        raised_all i h = up i (omega (arith, f.lengths.deadlines))
 
         -- The steps are the method's,
-        by_method : stepped s.jobs s.subtasks s.releases s.executions us' os' ls (length s.releases) ≡ method s
+        by_method : stepped s.jobs s.subtasks s.releases s.executions us os (replicate room 0) (length s.releases) ≡ method s
         unfolding method
         by_method =
-            let zeros = ap (take (size s)) m.zeros ∙ take-replicate (size s) (length ls) 0 m.local in
-            rw (so, m.fit.lengths.releases, zeros, from-length 0 (size s))
-            (raised-steps s (size s) us' raised_all (size s) (in_order (release s) (places (size s))) (replicate (size s) 0) (in_order_below (release s) (size s)))
+            rw (so, f.lengths.releases, take-replicate (size s) room 0 enough, from-length 0 (size s))
+            (raised-steps s (size s) us raised_all (size s) (in_order (release s) (places (size s))) (replicate (size s) 0) (in_order_below (release s) (size s)))
 
         -- and a bound that is refused is the set's.
-        by_bounds_lem : (w : Outcome) → method s ≡ w → ruling (raised s.jobs s.subtasks s.releases s.executions us') w ≡ ruling (terms s) w
-        by_bounds_lem (placed ds) e = refl
-        by_bounds_lem (stuck q k) e =
-            ap (λ (z : ℤ). Refused (Late q k z)) (raised_signed s (size s) us' raised_all q (fit_inside s m.fit q k e))
+        by_bounds : (w : Outcome) → method s ≡ w → ruling (raised s.jobs s.subtasks s.releases s.executions us) w ≡ ruling (terms s) w
+        by_bounds (placed ds) e = refl
+        by_bounds (stuck q k) e =
+            ap (λ (z : ℤ). Refused (Late q k z)) (raised_signed s (size s) us raised_all q (fit_inside s f q k e))
 
         told : r ≡ ruling (terms s) (method s)
-        told = p.ruled ∙ ap (ruling (raised s.jobs s.subtasks s.releases s.executions us')) by_method ∙ by_bounds_lem (method s) refl
+        told = p.ruled ∙ ap (ruling (raised s.jobs s.subtasks s.releases s.executions us)) by_method ∙ by_bounds (method s) refl
 
-        pub room_refused : {q : Reason} → r ≡ Refused q → Places s out (Refused q) out
-        room_refused {q} e =
+        pub fit_refused : {out : List ℕ} {q : Reason} → r ≡ Refused q → Places s out (Refused q) out
+        fit_refused {out} {q} e =
             let t = sym e ∙ told in
             record { ruled = t; list = refused_list (terms s) (method s) out q t }
 
-        pub room_passed : {out' : List ℕ} → r ≡ Passed → out' ≡ take (length out) ls' → Places s out Passed out'
-        room_passed e o =
+        pub fit_passed : {out out' : List ℕ} → r ≡ Passed → out' ≡ take (length s.releases) ls → Places s out Passed out'
+        fit_passed {out} e o =
             let t = sym e ∙ told in
             let n = length s.releases in
-            let z = room_long ∙ sym m.fit.lengths.releases in
             record {
               ruled = t;
               list = o
-                  ∙ rw z (p.list ∙ ap (λ (w : Outcome). written w (take n ls')) by_method)
-                  ∙ passed_list (terms s) (method s) (take n ls') out t;
+                  ∙ p.list
+                  ∙ ap (λ (w : Outcome). written w (take n ls)) by_method
+                  ∙ passed_list (terms s) (method s) (take n ls) out t;
             }

@@ -16,49 +16,6 @@ use Rattle.rules.specs.Method.{best, base}
 use Rattle.olda.specs.Parts.{at, rest, lessened, completions, Greatest}
 use Rattle.olda.proofs.Adding.{completions-length}
 
--- The first k lessened, one after the other.
-lessened-at : (k v : ℕ) (ns : List ℕ) → at (lessened k v ns) k ≡ at ns k
-unfolding lessened
-lessened-at zero v ns = refl
-lessened-at (suc k) v [] = refl
-lessened-at (suc k) v (n ∷ ns) = lessened-at k v ns
-
-lessened_more : (k v : ℕ) (ns : List ℕ) → k < length ns → set (lessened k v ns) k (at ns k - v) ≡ lessened (suc k) v ns
-unfolding lessened
-lessened_more k v [] h = absurd (omega arith)
-lessened_more zero v (n ∷ ns) h = refl
-lessened_more (suc k) v (n ∷ ns) h = ap (λ (l : List ℕ). (n - v) ∷ l) (lessened_more k v ns (omega arith))
-
--- v is taken off the first k numbers of b; off i of them it is.
-pub record Lessened (a b : List ℕ) (v k i : ℕ) : Type 0 where
-  pub most : i ≤ k
-  pub room : k ≤ length b
-  pub enough : (j : ℕ) → j < k → v ≤ at b j
-  pub same : a ≡ lessened i v b
-
-module _ {a b : List ℕ} {v k i : ℕ} (l : Lessened a b v k i) where
-  next : at a i ≡ at b i
-  next = ap (λ (ns : List ℕ). at ns i) l.same ∙ lessened-at i v b
-
-  pub lessened_fits : i < k → v ≤ at a i
-  lessened_fits h = omega (arith, next, l.enough i h)
-
-  pub lessened_next : i < k → Lessened (set a i (at a i - v)) b v k (i + 1)
-  lessened_next h =
-      record {
-        most = omega arith;
-        room = l.room;
-        enough = l.enough;
-        same = rw (next, add-one) (ap (λ (ns : List ℕ). set ns i (at b i - v)) l.same ∙ lessened_more i v b (omega arith));
-      }
-
-  pub lessened_all : k ≤ i → a ≡ lessened k v b
-  lessened_all h = let z : i ≡ k = omega arith in rw z at l.same
-
-pub lessened_none : (b : List ℕ) (v k : ℕ) → k ≤ length b → ((j : ℕ) → j < k → v ≤ at b j) → Lessened b b v k 0
-unfolding lessened
-lessened_none b v k h e = record { most = omega arith; room = h; enough = e; same = refl }
-
 -- The latest of the greatest of the first i numbers stands at k.
 pub record Leading (ns : List ℕ) (k i : ℕ) : Type 0 where
   pub inside : k < i
@@ -103,13 +60,6 @@ module _ {ns : List ℕ} {k i : ℕ} (l : Leading ns k i) where
         latest = λ j q w. l.latest j q (omega arith);
       }
 
-take-lessened : (n k v : ℕ) (ns : List ℕ) → k ≤ n → take n (lessened k v ns) ≡ lessened k v (take n ns)
-unfolding lessened
-take-lessened n zero v ns h = refl
-take-lessened zero (suc k) v ns h = absurd (omega arith)
-take-lessened (suc n) (suc k) v [] h = refl
-take-lessened (suc n) (suc k) v (m ∷ ns) h = ap (λ (l : List ℕ). (m - v) ∷ l) (take-lessened n k v ns (omega arith))
-
 weight-rest : (f : ℕ → ℕ) (xs : List ℕ) (k : ℕ) → k < length xs → weight f (rest k xs) + f (at xs k) ≡ weight f xs
 unfolding weight
 weight-rest f [] k h = absurd (omega arith)
@@ -130,7 +80,7 @@ module _ (r c : ℕ → ℕ) where
 
   -- When a sub-job leaves, the tails that it was in are shorter by its execution and the one that it starts is gone.
   completions-rest : (xs : List ℕ) (k : ℕ) → k < length xs → rest k (lessened k (c (at xs k)) (completions r c xs)) ≡ completions r c (rest k xs)
-  unfolding completions lessened weight
+  unfolding completions weight
   completions-rest [] k h = absurd (omega arith)
   completions-rest (x ∷ xs) zero h = refl
   completions-rest (x ∷ xs) (suc k) h =
@@ -138,14 +88,13 @@ module _ (r c : ℕ → ℕ) where
       let z : r x + (c x + weight c xs) - c (at xs k) ≡ r x + (c x + weight c (rest k xs)) = omega arith in
       rw (z, completions-rest xs k (omega arith))
 
-  -- The same of an array whose first n numbers are the completions; v is the execution of the sub-job at k.
-  module _ (xs es : List ℕ) (n k v : ℕ) (e : take n es ≡ completions r c xs) (l : length xs ≡ n) (h : k < n) (q : c (at xs k) ≡ v) where
+  -- The same of a list that is the completions; v is the execution of the sub-job at k.
+  module _ (xs es : List ℕ) (k v : ℕ) (e : es ≡ completions r c xs) (h : k < length xs) (q : c (at xs k) ≡ v) where
     pub held_enough : (i : ℕ) → i < k → v ≤ at es i
-    held_enough i j =
-        omega (arith, completions_hold xs k i (omega arith) j, ap (λ (ms : List ℕ). at ms i) e, get_or-take n es i 0 (omega arith))
+    held_enough i j = omega (arith, completions_hold xs k i h j, ap (λ (ms : List ℕ). at ms i) e)
 
-    pub held_rest : rest k (take n (lessened k v es)) ≡ completions r c (rest k xs)
-    held_rest = rw (take-lessened n k v es (omega arith), e, ← q) (completions-rest xs k (omega arith))
+    pub held_rest : rest k (lessened k v es) ≡ completions r c (rest k xs)
+    held_rest = rw (e, ← q) (completions-rest xs k h)
 
   -- Completions below m leave `best` below it.
   best_below : (xs : List ℕ) (m : ℕ) → 0 < m → ((j : ℕ) → j < length xs → at (completions r c xs) j < m) → best r c xs < m

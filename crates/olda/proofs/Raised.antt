@@ -24,39 +24,20 @@ use Rattle.rules.proofs.AllPlaces.{every_base}
 use Rattle.rules.proofs.Rules.{best_of, base_of}
 use Rattle.olda.specs.Parts.{at, limits, raise, lower_by, raised, Raised, Raising}
 
--- The first i bounds are raised.
-pub record Risen (ds zs us : List ℕ) (i : ℕ) : Type 0 where
-  pub most : i ≤ length ds
-  pub asked : Raising ds zs us
-  pub done : Raised (limits ds zs) i us
-
-pub risen_none : {ds zs us : List ℕ} → Raising ds zs us → Risen ds zs us 0
-risen_none a = record { most = omega arith; asked = a; done = λ i h. absurd (omega arith) }
-
-module _ {ds zs us : List ℕ} {i : ℕ} (r : Risen ds zs us i) where
-  module _ (h : i < length ds) where
-    pub risen_fits : Fits w32 (at ds i + raise)
-    risen_fits = record { fits = omega (arith, r.asked.most i h) }
-
-    module _ {w : ℕ} (e : w ≡ (limits ds zs).withheld i) where
-      pub risen_least : w ≤ at ds i + raise
-      risen_least = omega (arith, e, r.asked.least i h)
-
-      pub risen_more : Risen ds zs (set us i (at ds i + raise - w)) (i + 1)
-      risen_more =
-          let v = at ds i + raise - w in
-          let a = r.asked in
-          record {
-            most = omega arith;
-            asked = record { criticals = a.criticals; room = simp length-set a.room; least = a.least; most = a.most };
-            done = λ j b.
-                test (eqb j i)
-                (λ t. let q : j ≡ i = omega tests in rw (q, get_or-set_same us i v 0 (omega (arith, a.room))) (omega (arith, risen_least, e)))
-                (λ t. rw (get_or-set_other us i j v 0 (eqb_no j i t)) (r.done j (omega tests)));
-          }
-
-  pub risen_all : length ds ≤ i → Raised (limits ds zs) (length ds) us
-  risen_all h = let z : i ≡ length ds = omega (arith, r.most) in rw z at r.done
+-- One more bound is raised.
+pub raised_more :
+    {ds zs old : List ℕ} (us : List ℕ) {i w : ℕ}
+    → Raising ds zs old
+    → length us ≡ length old
+    → i < length ds
+    → w ≡ (limits ds zs).withheld i
+    → Raised (limits ds zs) i us
+    → Raised (limits ds zs) (i + 1) (set us i (at ds i + raise - w))
+raised_more {ds} {zs} us {i = i} {w = w} a l h e r j b =
+    let v = at ds i + raise - w in
+    test (eqb j i)
+    (λ t. let q : j ≡ i = omega tests in rw (q, get_or-set_same us i v 0 (omega (arith, a.room))) (omega (arith, a.least i h, e)))
+    (λ t. rw (get_or-set_other us i j v 0 (eqb_no j i t)) (r j (omega tests)))
 
 -- Two orders that agree on the places below n choose the same of them.
 module _ (n : ℕ) (lt lt' : ℕ → ℕ → Bool) (same : (i j : ℕ) → i < n → j < n → lt i j ≡ lt' i j) where

@@ -41,10 +41,6 @@ answered : (s : Subjobs) (w : Outcome) (out : List ℕ) → if_passed (ruling (t
 answered s (placed ds) out = refl
 answered s (stuck p m) out = refl
 
--- Where two ways meet, what is told on one of them.
-pub same_places : {s : Subjobs} {out a a' : List ℕ} {r r' : Judgement} → a ≡ a' → r ≡ r' → Places s out r' a' → Places s out r a
-same_places p q h = rw (p, q) h
-
 -- A set that is judged,
 module _ (s : Subjobs) (out : List ℕ) {j : Judgement} (e : j ≡ judgement s (eqb (length out) (size s))) where
   pub judged_refused : {q : Reason} → j ≡ judged.Refused q → Assigns s out (Refused q) out

@@ -2,7 +2,7 @@
 -- are held, and their steps give what the steps of all give.
 use Prim.Native.Nat.{ℕ, suc, ◌+◌, ◌-◌, ◌*◌, ◌<◌, ◌≤◌}
 use mathlib.Core.Bool.{not}
-use mathlib.Core.List.{List}
+use mathlib.Core.List.{List, ◌++◌}
 use mathlib.Core.Option.{some}
 use mathlib.Core.Path.{◌≡◌, refl, ap, sym, ◌∙◌}
 use lib.IntN.{ℤ, sub_ℕ}
@@ -11,8 +11,9 @@ use borrow.Author.Tests.{le-leb, lt-leb}
 use lib.Dec.{eqb}
 use lib.ListN.{length, take, drop, set, length-set, length-take, length-drop}
 use lib.Seq.{length-take-le, get_or-take, get_or-drop, take-set-lt}
-use mir.Syntax.{w32, w64}
+use mir.Syntax.{w32}
 use mir.Val.{Fits}
+use Rattle.std.proofs.lemmas.List.{take-append-le}
 use Rattle.lists.specs.Places.{without}
 use Rattle.lists.specs.Order.{reversed, choose}
 use Rattle.lists.proofs.Mapped.{part_within}
@@ -22,14 +23,16 @@ use Rattle.subjobs.specs.declared.Judgement.TheVariants as judged
 use Rattle.subjobs.specs.declared.Reason.TheVariants.{Late}
 use Rattle.subjobs.specs.Terms.{Terms}
 use Rattle.rules.specs.Method.{stuck, best, base, steps}
-use Rattle.olda.specs.Parts.{at, completes, completions, raise, lower_by, raised, Ranged, Tail, Tails, Greatest, Known, Choosing, Chosen, Leaving, Left, Placing, stepped, Placed}
+use Rattle.olda.specs.Parts.{at, rest, completes, completions, raise, lower_by, raised, Ranged, Tail, Tails, Greatest, Known, Choosing, Chosen, Leaving, Left, Placing, stepped, Placed}
 use Rattle.olda.proofs.Adding.{tail_most, completions-length, completions-at}
 use Rattle.olda.proofs.Held.{length_rest, held_enough, held_rest, greatest_tail}
 use Rattle.olda.proofs.Shifts.{without_at}
 
--- A part lent from the front has the length that is told of it.
-pub front : (n : ℕ) (l : List ℕ) → n ≤ length l → n ≡ length (take n l)
-front n l h = sym (length-take-le n l h)
+-- A front of n that lost one of its numbers, in the array that it is the front of.
+shorter : (xs behind ys : List ℕ) (m n : ℕ) → m ≡ n → length ys + 1 ≡ n → take (m - 1) xs ≡ ys → take (n - 1) (xs ++ behind) ≡ ys
+shorter xs behind ys m n z l e =
+    let h : n - 1 ≤ length xs = omega (arith, ap length e, length-take (m - 1) xs) in
+    take-append-le (n - 1) xs behind h ∙ rw z at e
 
 -- The base sub-job b and the completion m settle a step.
 module _
@@ -88,9 +91,6 @@ module _ {js ks rs cs us old kept : List ℕ} {all : ℕ} {os es ls : List ℕ} 
   long : length (take n os) ≡ n
   long = length-take-le n os s.asked.order
 
-  pub stepping_some : 0 < n → 0 < length (take n es)
-  stepping_some o = omega (arith, length-take-le n es s.asked.ends)
-
   -- All are placed.
   pub stepping_all : n ≤ 0 → Placed js ks rs cs us old kept all judged.Passed ls
   unfolding steps
@@ -103,15 +103,6 @@ module _ {js ks rs cs us old kept : List ℕ} {all : ℕ} {os es ls : List ℕ} 
   module _ {k : ℕ} (g : Greatest (take n es) k) where
     base_inside : k < n
     base_inside = omega (arith, g.inside, length-take-le n es s.asked.ends)
-
-    pub base_start : k < length es
-    base_start = omega (arith, base_inside, s.asked.ends)
-
-    pub base_offset : Fits w64 (k * 4)
-    base_offset = record { fits = omega (arith, base_inside, s.asked.few) }
-
-    pub base_end : k ≤ n
-    base_end = omega (arith, base_inside)
 
     tail : Tail rs cs (drop k (take n os))
     tail =
@@ -168,98 +159,97 @@ module _ {js ks rs cs us old kept : List ℕ} {all : ℕ} {os es ls : List ℕ} 
       job_inside : k + j < n
       job_inside = omega (arith, c.inside, ap length part, length-drop k (take n os), long)
 
-      pub job_start : k + j < length os
-      job_start = omega (arith, job_inside, s.asked.order)
+      stands : at (take n os) (k + j) ≡ at os (k + j)
+      stands = get_or-take n os (k + j) 0 job_inside
 
-      pub job_fits : Fits w64 (k + j)
-      job_fits = record { fits = omega (arith, job_inside, s.asked.few) }
+      ranged : Ranged rs cs (at os (k + j))
+      ranged = rw (← stands) (every_at (Ranged rs cs) (take n os) (k + j) (omega (arith, job_inside, long)) s.asked.each)
 
-      pub job_offset : Fits w64 ((k + j) * 4)
-      job_offset = record { fits = omega (arith, job_inside, s.asked.few) }
+      pub job_bound : at os (k + j) < length us
+      job_bound = omega (arith, ranged.inside, s.asked.bounds)
 
-      module _ {p : ℕ} (e : p ≡ at os (k + j)) where
-        stands : at (take n os) (k + j) ≡ p
-        stands = get_or-take n os (k + j) 0 job_inside ∙ sym e
+      pub job_local : at os (k + j) < length ls
+      job_local = omega (arith, ranged.inside, s.asked.local)
 
-        ranged : Ranged rs cs p
-        ranged = rw (← stands) (every_at (Ranged rs cs) (take n os) (k + j) (omega (arith, job_inside, long)) s.asked.each)
+      pub job_execution : at os (k + j) < length cs
+      job_execution = ranged.known
 
-        pub place_offset : Fits w64 (p * 4)
-        place_offset = record { fits = omega (arith, ranged.inside, s.asked.size) }
+      is_job : choose (reversed (lower_by us js ks)) (base (at rs) (at cs) (take n os)) ≡ some (at os (k + j))
+      is_job =
+          rw (← is_base.1, ← part)
+          (c.last ∙ ap some (get_or-take (n - k) (drop k os) j 0 (omega (arith, job_inside)) ∙ get_or-drop k os j 0))
 
-        pub job_bound : p < length us
-        job_bound = omega (arith, ranged.inside, s.asked.bounds)
+      is_best : at es k ≡ best (at rs) (at cs) (take n os)
+      is_best = sym (get_or-take n es k 0 base_inside) ∙ is_base.0
 
-        pub job_local : p < length ls
-        job_local = omega (arith, ranged.inside, s.asked.local)
+      -- It leaves, with its execution,
+      module _ (v : ℕ) (q : v ≡ at cs (at os (k + j))) where
+        same_execution : at cs (at (take n os) (k + j)) ≡ v
+        same_execution = ap (at cs) stands ∙ sym q
 
-        pub job_execution : p < length cs
-        job_execution = ranged.known
-
-        is_job_lem : choose (reversed (lower_by us js ks)) (base (at rs) (at cs) (take n os)) ≡ some p
-        is_job_lem =
-            rw (← is_base.1, ← part)
-            (c.last ∙ ap some (get_or-take (n - k) (drop k os) j 0 (omega (arith, job_inside)) ∙ get_or-drop k os j 0 ∙ sym e))
-
-        is_best : at es k ≡ best (at rs) (at cs) (take n os)
-        is_best = sym (get_or-take n es k 0 base_inside) ∙ is_base.0
-
-        pub job_leaving : Leaving os es n (k + j) (at cs p)
+        pub job_leaving : Leaving (take n os) (take n es) (k + j) v
         job_leaving =
+            let h : k + j < length (take n os) = omega (arith, job_inside, long) in
             record {
-              inside = job_inside;
-              order = s.asked.order;
-              ends = s.asked.ends;
-              enough = held_enough (at rs) (at cs) (take n os) es n (k + j) (at cs p) s.held long job_inside (ap (at cs) stands);
+              order = h;
+              ends = omega (arith, job_inside, length-take-le n es s.asked.ends);
+              enough = held_enough (at rs) (at cs) (take n os) (take n es) (k + j) v s.held h same_execution;
             }
 
-        -- Step 3 fails: its bound lies before the completion.
-        pub stepping_late :
-            {b : ℤ}
-            → 0 < n
-            → at us p < at es k + raise
-            → b ≡ sub_ℕ (at us p) raise
-            → Placed js ks rs cs us old kept all (judged.Refused (Late p (at es k) b)) ls
-        stepping_late o h q =
-            let e =
-            sym s.same ∙ step_late (raised js ks rs cs us) (n - 1) n (take n os) (take (length rs) ls) p (at es k) (omega arith) is_job_lem is_best h
-            in
-            record { ruled = rw (e, q); list = rw e }
+      -- Step 3 fails: its bound lies before the completion.
+      pub stepping_late :
+          {b : ℤ}
+          → 0 < n
+          → at us (at os (k + j)) < at es k + raise
+          → b ≡ sub_ℕ (at us (at os (k + j))) raise
+          → Placed js ks rs cs us old kept all (judged.Refused (Late (at os (k + j)) (at es k) b)) ls
+      stepping_late o h q =
+          let e =
+          sym s.same
+          ∙ step_late (raised js ks rs cs us) (n - 1) n (take n os) (take (length rs) ls) (at os (k + j)) (at es k) (omega arith) is_job is_best h
+          in
+          record { ruled = rw (e, q); list = rw e }
 
-        -- It gets the completion and leaves.
-        pub stepping_next :
-            {os' es' : List ℕ}
-            → 0 < n
-            → at es k + raise ≤ at us p
-            → Left os es n (k + j) (at cs p) os' es'
-            → Stepping js ks rs cs us old kept all os' es' (set ls p (at es k)) (n - 1)
-        stepping_next {os'} {es'} o h l =
-            let xs = take n os in
-            let i : k + j < length xs = omega (arith, job_inside, long) in
-            let fewer = ap length l.order in
-            let one = length_rest xs (k + j) i in
-            let held =
-            l.ends
-            ∙ held_rest (at rs) (at cs) xs es n (k + j) (at cs p) s.held long job_inside (ap (at cs) stands)
-            ∙ ap (completions (at rs) (at cs)) (sym l.order)
-            in
-            let w : take (n - 1) os' ≡ without p xs =
-            l.order ∙ sym (without_at xs (k + j) s.asked.once i) ∙ ap (λ (b : ℕ). without b xs) stands
-            in
-            record {
-              asked = record {
-                jobs = s.asked.jobs;
-                subtasks = s.asked.subtasks;
-                bounds = s.asked.bounds;
-                local = simp length-set s.asked.local;
-                size = s.asked.size;
-                order = omega (arith, length-take (n - 1) os', long);
-                ends = omega (arith, ap length held, length-take (n - 1) es', completions-length (at rs) (at cs) (take (n - 1) os'), long);
-                few = omega (arith, s.asked.few);
-                each = rw w (in_every (Ranged rs cs) (without p xs) (λ i m. every_in (Ranged rs cs) xs s.asked.each (without_in p xs m).0));
-                once = rw w (nodup_filter (λ i. not (eqb i p)) xs s.asked.once);
-              };
-              held = held;
-              same = rw (w, take-set-lt (length rs) ls p (at es k) ranged.inside)
-                  (sym (step_more (raised js ks rs cs us) (n - 1) n xs (take (length rs) ls) p (at es k) (omega arith) is_job_lem is_best h) ∙ s.same);
-            }
+      -- It gets the completion and leaves.
+      pub stepping_next :
+          {os' es' : List ℕ}
+          → 0 < n
+          → at es k + raise ≤ at us (at os (k + j))
+          → Left (take n os) (take n es) (k + j) (at cs (at os (k + j))) os' es'
+          → Stepping js ks rs cs us old kept all (os' ++ drop n os) (es' ++ drop n es) (set ls (at os (k + j)) (at es k)) (n - 1)
+      stepping_next {os'} {es'} o h l =
+          let xs = take n os in
+          let p = at os (k + j) in
+          let i : k + j < length xs = omega (arith, job_inside, long) in
+          let one = length_rest xs (k + j) i in
+          let order = shorter os' (drop n os) (rest (k + j) xs) (length xs) n long (omega (arith, one, long)) l.order in
+          let ends =
+          l.ends ∙ held_rest (at rs) (at cs) xs (take n es) (k + j) (at cs p) s.held i (ap (at cs) stands)
+          in
+          let fewer : length (completions (at rs) (at cs) (rest (k + j) xs)) + 1 ≡ n =
+          omega (arith, completions-length (at rs) (at cs) (rest (k + j) xs), one, long)
+          in
+          let held =
+          shorter es' (drop n es) (completions (at rs) (at cs) (rest (k + j) xs)) (length (take n es)) n (length-take-le n es s.asked.ends) fewer ends
+          ∙ ap (completions (at rs) (at cs)) (sym order)
+          in
+          let w : take (n - 1) (os' ++ drop n os) ≡ without p xs =
+          order ∙ sym (without_at xs (k + j) s.asked.once i) ∙ ap (λ (b : ℕ). without b xs) stands
+          in
+          record {
+            asked = record {
+              jobs = s.asked.jobs;
+              subtasks = s.asked.subtasks;
+              bounds = s.asked.bounds;
+              local = simp length-set s.asked.local;
+              size = s.asked.size;
+              order = omega (arith, ap length order, length-take (n - 1) (os' ++ drop n os), one, long);
+              ends = omega (arith, ap length held, ap length order, length-take (n - 1) (es' ++ drop n es), completions-length (at rs) (at cs) (take (n - 1) (os' ++ drop n os)), one, long);
+              few = omega (arith, s.asked.few);
+              each = rw w (in_every (Ranged rs cs) (without p xs) (λ i m. every_in (Ranged rs cs) xs s.asked.each (without_in p xs m).0));
+              once = rw w (nodup_filter (λ i. not (eqb i p)) xs s.asked.once);
+            };
+            held = held;
+            same = rw (w, take-set-lt (length rs) ls p (at es k) ranged.inside)
+                (sym (step_more (raised js ks rs cs us) (n - 1) n xs (take (length rs) ls) p (at es k) (omega arith) is_job is_best h) ∙ s.same);
+          }

@@ -15,7 +15,7 @@
 --   reported T n d      == the report of n sub-jobs with the local deadlines d
 --
 -- The records are named by what is done with the lists: what is asked before it, and what is told after it.
-use Rattle.std.specs.Prelude.{ℕ, zero, suc, ◌+◌, ◌-◌, ◌<◌, ◌≤◌, Bool, List, [], ◌∷◌, ◌++◌, ◌≡◌, eqb, length, get_or, take, drop, replicate}
+use Rattle.std.specs.Prelude.{ℕ, zero, suc, ◌+◌, ◌-◌, ◌<◌, ◌≤◌, Bool, List, [], ◌∷◌, ◌++◌, ◌≡◌, eqb, length, get_or, map, take, drop}
 use Rattle.std.proofs.Math.Option.{some}
 use Rattle.lists.specs.Places.{places, weight, Every, Nodup}
 use Rattle.lists.specs.Order.{by, lex, reversed, choose, given}
@@ -36,10 +36,8 @@ at xs i = get_or xs i 0
 abbrev pub rest : ℕ → List ℕ → List ℕ
 rest k xs = take k xs ++ drop (suc k) xs
 
-unfoldable pub lessened : ℕ → ℕ → List ℕ → List ℕ
-lessened zero v ns = ns
-lessened (suc k) v [] = []
-lessened (suc k) v (n ∷ ns) = (n - v) ∷ lessened k v ns
+abbrev pub lessened : ℕ → ℕ → List ℕ → List ℕ
+lessened k v ns = map (λ n. n - v) (take k ns) ++ drop k ns
 
 abbrev pub completes : (r c : ℕ → ℕ) → List ℕ → ℕ
 completes r c xs = r (at xs 0) + weight c xs
@@ -133,16 +131,15 @@ pub record Chosen (xs us js ks : List ℕ) (k : ℕ) : Type 0 where
   pub inside : k < length xs
   pub last : choose (reversed (lower_by us js ks)) xs ≡ some (at xs k)
 
--- The sub-job at k of the n that are left leaves, and takes its execution x off the tails that it was in.
-pub record Leaving (os es : List ℕ) (n k x : ℕ) : Type 0 where
-  pub inside : k < n
-  pub order : n ≤ length os
-  pub ends : n ≤ length es
+-- The sub-job at k of those that are left leaves, and takes its execution x off the tails that it was in.
+pub record Leaving (os es : List ℕ) (k x : ℕ) : Type 0 where
+  pub order : k < length os
+  pub ends : k < length es
   pub enough : (i : ℕ) → i < k → x ≤ at es i
 
-pub record Left (os es : List ℕ) (n k x : ℕ) (os' es' : List ℕ) : Type 0 where
-  pub order : take (n - 1) os' ≡ rest k (take n os)
-  pub ends : take (n - 1) es' ≡ rest k (take n (lessened k x es))
+pub record Left (os es : List ℕ) (k x : ℕ) (os' es' : List ℕ) : Type 0 where
+  pub order : take (length os - 1) os' ≡ rest k os
+  pub ends : take (length es - 1) es' ≡ rest k (lessened k x es)
 
 -- The steps are taken on the first n places of os, with room for the completions and for the local deadlines.
 pub record Placing (js ks rs cs us os es ls : List ℕ) (n : ℕ) : Type 0 where
@@ -165,17 +162,9 @@ pub record Placed (js ks rs cs us os ls : List ℕ) (n : ℕ) (r : Judgement) (l
   pub ruled : r ≡ ruling (raised js ks rs cs us) (stepped js ks rs cs us os ls n)
   pub list : take (length rs) ls' ≡ written (stepped js ks rs cs us os ls n) (take (length rs) ls')
 
--- A set that fits, with a result list as long as it is, is placed in room that is lent.
+-- A set that fits, with a result list as long as it is, is placed.
 abbrev pub Fits : Subjobs → List ℕ → Type 0
 Fits s out = Fit s (eqb (length out) (size s))
-
-pub record Room (s : Subjobs) (out us ls os es : List ℕ) : Type 0 where
-  pub fit : Fits s out
-  pub bounds : size s ≤ length us
-  pub local : size s ≤ length ls
-  pub zeros : ls ≡ replicate (length ls) 0
-  pub order : size s ≤ length os
-  pub ends : size s ≤ length es
 
 -- The outcome of the method is told as r, and the result list is written if all are placed.
 pub record Places (s : Subjobs) (out : List ℕ) (r : Judgement) (out' : List ℕ) : Type 0 where

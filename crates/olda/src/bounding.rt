@@ -20,10 +20,8 @@ pub(crate) fn raise(deadlines: &[u32], criticals: &[u32], bounds: &mut [u32])
     requires { Raising deadlines.now criticals.now bounds.old }
     ensures { Raised (limits deadlines.now criticals.now) (length deadlines.now) bounds.new }
 {
-    let mut i = 0;
-    while i < deadlines.len() {
+    for i in 0..deadlines.len() {
         bounds[i] = deadlines[i] + RAISE - withheld(criticals, i);
-        i += 1;
     }
 }
 
@@ -32,12 +30,12 @@ pub(crate) fn difference(a: u32, b: u64) -> i64
     requires { b < 8589934592 }
     ensures { result ≡ sub_ℕ a b }
 {
-    (a as i64) - (b as i64)
+    i64::from(a) - (b as i64)
 }
 
 // A raised bound as the signed upper bound that it stands for.
 pub(crate) fn signed(bound: u32) -> i64
     ensures { result ≡ sub_ℕ bound raise }
 {
-    difference(bound, RAISE as u64)
+    difference(bound, u64::from(RAISE))
 }

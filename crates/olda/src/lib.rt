@@ -20,7 +20,7 @@ mod sorting;
 mod tailing;
 
 // The least slack of an accepted set and the smallest place that has it.
-#[derive(Drop)]
+#[derive(Clone, Copy, Debug, PartialEq, Eq)]
 pub struct Report {
     pub slack: i64,
     pub place: usize,
@@ -56,15 +56,9 @@ pub fn assign(
     if let Judgement::Refused(reason) = judgement {
         return Answer::Refused(reason);
     }
-    let placed = if jobs.len() <= 8 {
-        fitting::place_few(
-            jobs, subtasks, releases, executions, deadlines, criticals, out,
-        )
-    } else {
-        fitting::place_many(
-            jobs, subtasks, releases, executions, deadlines, criticals, out,
-        )
-    };
+    let placed = fitting::place(
+        jobs, subtasks, releases, executions, deadlines, criticals, out,
+    );
     match placed {
         Judgement::Refused(reason) => Answer::Refused(reason),
         Judgement::Passed => reporting::report(deadlines, criticals, out),

@@ -6,19 +6,12 @@ ghost use Rattle.olda.specs.Parts.{at, limits, reported, Reporting, Tightest};
 use crate::bounding::{difference, withheld};
 use crate::{Answer, Report};
 
-// A number widened, so that sums of two fit.
-fn wide(x: u32) -> u64
-    ensures { (result ≡ x) × (result < 4294967296) }
-{
-    x as u64
-}
-
 // How far a sub-job reaches: its local deadline plus what is withheld. The slack is what its deadline leaves of that.
 fn reach(criticals: &[u32], local: &[u32], i: usize) -> u64
     requires { (i < length criticals.now) × (i < length local.now) }
     ensures { (result ≡ (limits [] criticals.now).withheld i + at local.now i) × (result < 8589934592) }
 {
-    wide(withheld(criticals, i)) + wide(local[i])
+    u64::from(withheld(criticals, i)) + u64::from(local[i])
 }
 
 // Whether the slack at i is below that at j. Slacks are compared by cross sums.
@@ -27,8 +20,8 @@ fn tighter(deadlines: &[u32], criticals: &[u32], local: &[u32], i: usize, j: usi
     requires i_in_bounds { (i < length local.now) × (j < length local.now) }
     ensures { result ≡ by_slack (limits deadlines.now criticals.now) (at local.now) i j }
 {
-    wide(deadlines[i]) + reach(criticals, local, j)
-        < wide(deadlines[j]) + reach(criticals, local, i)
+    u64::from(deadlines[i]) + reach(criticals, local, j)
+        < u64::from(deadlines[j]) + reach(criticals, local, i)
 }
 
 // The smallest place of the least slack.
@@ -38,12 +31,10 @@ fn least_slack(deadlines: &[u32], criticals: &[u32], local: &[u32]) -> usize
     ensures { Tightest deadlines.now criticals.now local.now result }
 {
     let mut p = 0;
-    let mut i = 1;
-    while i < local.len() {
+    for i in 1..local.len() {
         if tighter(deadlines, criticals, local, i, p) {
             p = i;
         }
-        i += 1;
     }
     p
 }

@@ -1,35 +1,24 @@
 // Tails: the sub-jobs released at or after one release, as parts of the executions in release order; their completions,
 // and the search for the greatest. Callers know them by `completions` and `Greatest` alone, however they are added up.
-ghost use Rattle.std.specs.Prelude.{◌+◌, ◌<◌, ◌≡◌, map, length, take};
-ghost use Rattle.lists.specs.Places.{total};
+ghost use Rattle.std.specs.Prelude.{◌+◌, ◌^◌, ◌<◌, ◌≡◌, map, sum, length, take};
 ghost use Rattle.olda.specs.Parts.{at, completions, Ordering, Tails, Greatest};
-
-use crate::choosing::index;
 
 // Writes the executions in release order.
 fn executions_in_order(order: &[u32], executions: &[u32], ends: &mut [u32])
     requires { Ordering executions.now order.now ends.old }
     ensures { take (length order.now) ends.new ≡ map (at executions.now) order.now }
 {
-    let mut i = 0;
-    while i < order.len() {
-        ends[i] = executions[index(order[i])];
-        i += 1;
+    for (i, place) in order.iter().enumerate() {
+        ends[i] = executions[*place as usize];
     }
 }
 
 // The completion of one tail: the release of its first sub-job plus all its executions.
 fn completion(release: u32, tail: &[u32]) -> u32
-    requires { release + total tail.now < 4294967296 }
-    ensures { result ≡ release + total tail.now }
+    requires { release + sum tail.now < 2 ^ 32 }
+    ensures { result ≡ release + sum tail.now }
 {
-    let mut m = release;
-    let mut i = 0;
-    while i < tail.len() {
-        m += tail[i];
-        i += 1;
-    }
-    m
+    release + tail.iter().sum::<u32>()
 }
 
 // The completion of each tail, where it starts: what stands before i are completions already, from i on executions
@@ -41,10 +30,8 @@ pub(crate) fn completions(order: &[u32], releases: &[u32], executions: &[u32], e
 {
     executions_in_order(order, executions, ends);
     let n = order.len();
-    let mut i = 0;
-    while i < n {
-        ends[i] = completion(releases[index(order[i])], &ends[i..n]);
-        i += 1;
+    for i in 0..n {
+        ends[i] = completion(releases[order[i] as usize], &ends[i..n]);
     }
 }
 
@@ -54,12 +41,10 @@ pub(crate) fn base_tail(ends: &[u32]) -> usize
     ensures { Greatest ends.now result }
 {
     let mut start = 0;
-    let mut i = 1;
-    while i < ends.len() {
+    for i in 1..ends.len() {
         if ends[start] <= ends[i] {
             start = i;
         }
-        i += 1;
     }
     start
 }

@@ -1,25 +1,16 @@
 -- `bounding::raise` meets its contract: the bounds so far are raised.
-use borrow.Author.Rules.{rules}
-use lib.ListN.{length-set}
-use Rattle.olda.proofs.Raised.{risen_none, risen_fits, risen_least, risen_more, risen_all}
+use Rattle.std.proofs.Common.{arith}
+use Rattle.olda.proofs.Raised.{raised_more}
 use Rattle.olda.proofs.bounding.raise.Goals as goal
 
 pub loop-i-init : goal.loop-i-init
-loop-i-init c =
-    (search risen_none, search rules)
-
-pub overflow_add-bounds : goal.overflow_add-bounds
-overflow_add-bounds c =
-    search risen_fits
-
-pub overflow_sub-bounds : goal.overflow_sub-bounds
-overflow_sub-bounds c =
-    search risen_least
+loop-i-init c i h =
+    absurd (omega arith)
 
 pub loop-i-preserved : goal.loop-i-preserved
 loop-i-preserved c =
-    (search risen_more, simp length-set (search rules))
+    raised_more _ c.requires c.loop-i.auto.bounds c.loop-i-test.true c.withheld.ensures c.loop-i.invariant
 
 pub returns : goal.returns
-returns c =
-    search risen_all
+returns c i h =
+    c.loop-i.invariant i (omega arith)

@@ -1,11 +1,6 @@
 -- `choosing::base_job` meets its contract: of those looked at so far the one found is the base sub-job.
-use Prim.Native.Nat.{◌-◌}
-use lib.ListN.{length}
 use Rattle.olda.proofs.Chosen.{Topped}
 use Rattle.olda.proofs.choosing.base_job.Given as goal
 
 abbrev pub invariant-loop-i : goal.invariant-loop-i
 invariant-loop-i l = Topped l.order l.bounds l.jobs l.subtasks l.at l.top l.i
-
-abbrev pub decreases-loop-i : goal.decreases-loop-i
-decreases-loop-i l = length l.order - l.i

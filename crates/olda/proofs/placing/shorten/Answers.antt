@@ -1,21 +1,12 @@
 -- `placing::shorten` meets its contract: the completions passed are lessened, the others stand as they stood.
-use borrow.Author.Rules.{rules}
-use lib.ListN.{length-set}
-use Rattle.olda.proofs.Held.{lessened_none, lessened_fits, lessened_next, lessened_all}
+use Rattle.std.proofs.Common.{◌-◌, get_or, arith}
+use Rattle.std.proofs.lemmas.List.{get_or_default}
+use Rattle.std.proofs.lemmas.List.Edits.{map_over_more}
 use Rattle.olda.proofs.placing.shorten.Goals as goal
 
-pub loop-i-init : goal.loop-i-init
-loop-i-init c =
-    (search (rules, lessened_none), search rules)
-
-pub overflow_sub-ends : goal.overflow_sub-ends
-overflow_sub-ends c =
-    search (rules, lessened_fits)
-
-pub loop-i-preserved : goal.loop-i-preserved
-loop-i-preserved c =
-    (search (rules, lessened_next), simp length-set (search rules))
-
-pub returns : goal.returns
-returns c =
-    search (rules, lessened_all)
+pub loop-end-preserved : goal.loop-end-preserved
+loop-end-preserved c =
+    let es = c.loop-end.end-items in
+    let i = c.loop-end.end-index in
+    map_over_more (λ e. e - c.args.execution) c.args.ends.now es i (get_or es i 0) c.loop-end-test.true c.loop-end.invariant
+    (get_or_default es i 0 (get_or es i 0) (omega arith))

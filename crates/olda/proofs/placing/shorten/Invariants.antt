@@ -1,12 +1,7 @@
 -- `placing::shorten` meets its contract: the completions passed are lessened, the others stand as they stood.
-use Prim.Native.Nat.{◌-◌}
-use mathlib.Core.Path.{◌≡◌}
-use lib.ListN.{length}
-use Rattle.olda.proofs.Held.{Lessened}
+use Rattle.std.proofs.Common.{◌≡◌}
+use Rattle.olda.specs.Parts.{lessened}
 use Rattle.olda.proofs.placing.shorten.Given as goal
 
-abbrev pub invariant-loop-i : goal.invariant-loop-i
-invariant-loop-i l = Lessened l.ends l.initial.ends l.execution l.k l.i × (length l.ends ≡ length l.initial.ends)
-
-abbrev pub decreases-loop-i : goal.decreases-loop-i
-decreases-loop-i l = l.k - l.i
+abbrev pub invariant-loop-end : goal.invariant-loop-end
+invariant-loop-end l = l.end-items ≡ lessened l.end-index l.execution l.initial.end-items

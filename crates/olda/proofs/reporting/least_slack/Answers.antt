@@ -1,5 +1,5 @@
 -- `reporting::least_slack` meets its contract: of the places looked at so far the one found has the least slack.
-use borrow.Author.Rules.{rules}
+use Rattle.std.proofs.Common.{rules}
 use Rattle.olda.proofs.Chosen.{tight_one, tight_new, tight_old, tight_all}
 use Rattle.olda.proofs.reporting.least_slack.Goals as goal
 use Rattle.olda.proofs.reporting.least_slack.Goals.{then-tighter, else-tighter}

@@ -1,11 +1,6 @@
 -- `tailing::base_tail` meets its contract: of the completions seen so far the one found is the latest of the greatest.
-use Prim.Native.Nat.{◌-◌}
-use lib.ListN.{length}
 use Rattle.olda.proofs.Held.{Leading}
 use Rattle.olda.proofs.tailing.base_tail.Given as goal
 
 abbrev pub invariant-loop-i : goal.invariant-loop-i
 invariant-loop-i l = Leading l.ends l.start l.i
-
-abbrev pub decreases-loop-i : goal.decreases-loop-i
-decreases-loop-i l = length l.ends - l.i
