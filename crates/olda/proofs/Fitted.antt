@@ -1,4 +1,5 @@
 -- A set that fits, in room that is large enough: what the steps ask of it holds, and what they tell is the method's outcome.
+use Rattle.std.specs.Prelude.{Ok, Err}
 use Prim.Native.Nat.{ℕ, ◌<◌, ◌≤◌}
 use mathlib.Core.Bool.{Bool}
 use mathlib.Core.List.{List}
@@ -9,8 +10,7 @@ use lib.IntN.{ℤ}
 use Rattle.lists.specs.Places.{places}
 use Rattle.lists.proofs.Members.{in_every, from-length}
 use Rattle.lists.proofs.Mapped.{take-replicate}
-use Rattle.subjobs.specs.declared.Judgement.{Judgement}
-use Rattle.subjobs.specs.declared.Judgement.TheVariants.{Passed, Refused}
+use Rattle.subjobs.specs.Judging.{Judgement}
 use Rattle.subjobs.specs.declared.Reason.{Reason}
 use Rattle.subjobs.specs.declared.Reason.TheVariants.{Late}
 use Rattle.subjobs.specs.Sets.{Subjobs, size, release}
@@ -26,11 +26,11 @@ use Rattle.olda.proofs.Raised.{raised_signed, raised-steps}
 use Rattle.olda.proofs.Results.{fit_inside}
 
 -- An outcome that passes leaves nothing of what the list held, one that is refused leaves all of it.
-passed_list : (T : Terms) (w : Outcome) (a b : List ℕ) → Passed ≡ ruling T w → written w a ≡ written w b
+passed_list : (T : Terms) (w : Outcome) (a b : List ℕ) → Ok tt ≡ ruling T w → written w a ≡ written w b
 passed_list T (placed ds) a b e = refl
 passed_list T (stuck p m) a b e = refused_passed _ (sym e)
 
-refused_list : (T : Terms) (w : Outcome) (a : List ℕ) (q : Reason) → Refused q ≡ ruling T w → a ≡ written w a
+refused_list : (T : Terms) (w : Outcome) (a : List ℕ) (q : Reason) → Err q ≡ ruling T w → a ≡ written w a
 refused_list T (placed ds) a q e = refused_passed q e
 refused_list T (stuck p m) a q e = refl
 
@@ -52,7 +52,7 @@ module _ {s : Subjobs} {others : Bool} (f : Fit s others) (room : ℕ) (enough :
         {us : List ℕ}
         → length us ≡ room
         → length os ≡ room
-        → Placing s.jobs s.subtasks s.releases s.executions us os (replicate room 0) (replicate room 0) (length s.releases)
+        → Placing s us os (replicate room 0) (replicate room 0) (length s.releases)
     fit_placing u o =
         let l = f.lengths.releases in
         let n = length s.releases in
@@ -73,33 +73,33 @@ module _ {s : Subjobs} {others : Bool} (f : Fit s others) (room : ℕ) (enough :
         {us ls : List ℕ}
         {r : Judgement}
         (up : Raised (terms s) (length s.deadlines) us)
-        (p : Placed s.jobs s.subtasks s.releases s.executions us os (replicate room 0) (length s.releases) r ls)
+        (p : Placed s us os (replicate room 0) (length s.releases) r ls)
       where
         raised_all : Raised (terms s) (size s) us
         raised_all i h = up i (omega (arith, f.lengths.deadlines))
 
         -- The steps are the method's,
-        by_method : stepped s.jobs s.subtasks s.releases s.executions us os (replicate room 0) (length s.releases) ≡ method s
+        by_method : stepped s us os (replicate room 0) (length s.releases) ≡ method s
         unfolding method
         by_method =
             rw (so, f.lengths.releases, take-replicate (size s) room 0 enough, from-length 0 (size s))
             (raised-steps s (size s) us raised_all (size s) (in_order (release s) (places (size s))) (replicate (size s) 0) (in_order_below (release s) (size s)))
 
         -- and a bound that is refused is the set's.
-        by_bounds : (w : Outcome) → method s ≡ w → ruling (raised s.jobs s.subtasks s.releases s.executions us) w ≡ ruling (terms s) w
+        by_bounds : (w : Outcome) → method s ≡ w → ruling (raised s us) w ≡ ruling (terms s) w
         by_bounds (placed ds) e = refl
         by_bounds (stuck q k) e =
-            ap (λ (z : ℤ). Refused (Late q k z)) (raised_signed s (size s) us raised_all q (fit_inside s f q k e))
+            ap (λ (z : ℤ). Err (Late q k z)) (raised_signed s (size s) us raised_all q (fit_inside s f q k e))
 
         told : r ≡ ruling (terms s) (method s)
-        told = p.ruled ∙ ap (ruling (raised s.jobs s.subtasks s.releases s.executions us)) by_method ∙ by_bounds (method s) refl
+        told = p.ruled ∙ ap (ruling (raised s us)) by_method ∙ by_bounds (method s) refl
 
-        pub fit_refused : {out : List ℕ} {q : Reason} → r ≡ Refused q → Places s out (Refused q) out
+        pub fit_refused : {out : List ℕ} {q : Reason} → r ≡ Err q → Places s out (Err q) out
         fit_refused {out} {q} e =
             let t = sym e ∙ told in
             record { ruled = t; list = refused_list (terms s) (method s) out q t }
 
-        pub fit_passed : {out out' : List ℕ} → r ≡ Passed → out' ≡ take (length s.releases) ls → Places s out Passed out'
+        pub fit_passed : {out out' : List ℕ} → r ≡ Ok tt → out' ≡ take (length s.releases) ls → Places s out (Ok tt) out'
         fit_passed {out} e o =
             let t = sym e ∙ told in
             let n = length s.releases in

@@ -74,13 +74,13 @@ module _ (s : Subjobs) (n : ℕ) (us : List ℕ) (up : Raised (terms s) n us) wh
       same_leb (m + withheld s b) (deadline s b) (m + raise) (at us b) (λ l. omega arith) (λ l. omega arith)
 
   -- What is signed in a refusal is the upper bound.
-  pub raised_signed : (p : ℕ) → p < n → bound (raised s.jobs s.subtasks s.releases s.executions us) p ≡ bound (terms s) p
+  pub raised_signed : (p : ℕ) → p < n → bound (raised s us) p ≡ bound (terms s) p
   raised_signed p h = let b = up p h in sub_same (at us p) raise (deadline s p) (withheld s p) (omega arith)
 
   pub raised-steps :
       (m : ℕ) (xs ds : List ℕ)
       → Every (λ i. i < n) xs
-      → steps (raised s.jobs s.subtasks s.releases s.executions us) m xs ds ≡ steps (terms s) m xs ds
+      → steps (raised s us) m xs ds ≡ steps (terms s) m xs ds
   unfolding steps
   raised-steps zero xs ds e = refl
   raised-steps (suc m) xs ds e =

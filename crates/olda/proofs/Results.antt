@@ -1,5 +1,6 @@
 -- What callers of the assignment need of its answer and its result list: a report is no refusal, the result list keeps
 -- its length, and the place that a refusal reports is below 128.
+use Rattle.std.specs.Prelude.{Ok, Err}
 use Prim.Native.Nat.{ℕ, ◌<◌}
 use mathlib.Core.Bool.{Bool}
 use mathlib.Core.List.{List}
@@ -14,8 +15,7 @@ use Rattle.lists.proofs.Members.{places_in}
 use Rattle.lists.proofs.Choice.{choose_cases}
 use Rattle.subjobs.specs.declared.Reason.{Reason}
 use Rattle.subjobs.specs.declared.Reason.TheVariants.{Late}
-use Rattle.subjobs.specs.declared.Judgement.{Judgement}
-use Rattle.subjobs.specs.declared.Judgement.TheVariants as judged
+use Rattle.subjobs.specs.Judging.{Judgement}
 use Rattle.subjobs.specs.Reasons.{place_of}
 use Rattle.subjobs.specs.Sets.{Subjobs, size}
 use Rattle.subjobs.specs.Terms.{terms, bound, by_slack}
@@ -25,10 +25,9 @@ use Rattle.subjobs.proofs.Reported.{judged_within}
 use Rattle.rules.specs.Method.{Outcome, placed, stuck, method}
 use Rattle.rules.proofs.Rules.{refused_in}
 use Rattle.rules.proofs.Obeys.{method-placed, method-stuck}
-use Rattle.olda.specs.declared.Answer.TheVariants.{Refused}
 use Rattle.olda.specs.Answers.{report, outcome, answer, written, results}
 
-pub never_refused : {X : Type 0} (s : Subjobs) (d : ℕ → ℕ) (r : Reason) → report s d ≡ Refused r → X
+pub never_refused : {X : Type 0} (s : Subjobs) (d : ℕ → ℕ) (r : Reason) → report s d ≡ Err r → X
 unfolding report
 never_refused s d r e =
     split (choose_cases (by_slack (terms s) d) (places (size s)))
@@ -53,17 +52,17 @@ module _ (s : Subjobs) where
           (j : Judgement)
           → judgement s (eqb (length out) (size s)) ≡ j
           → length (if_passed j (written (method s) out) (λ r. out)) ≡ length out
-      by_judgement (judged.Refused r) e = refl
-      by_judgement judged.Passed e =
+      by_judgement (Err r) e = refl
+      by_judgement (Ok tt) e =
           let f = fit s (eqb (length out) (size s)) e in
           fit_length f out (eqb-true (length out) (size s) f.lengths.further) (method s) refl
 
-  pub refused_within : (n : ℕ) (r : Reason) → answer s n ≡ Refused r → place_of r < 128
+  pub refused_within : (n : ℕ) (r : Reason) → answer s n ≡ Err r → place_of r < 128
   unfolding answer
   refused_within n r a = by_judgement (judgement s (eqb n (size s))) refl a
     where
       by_outcome :
-          judgement s (eqb n (size s)) ≡ judged.Passed → (w : Outcome) → method s ≡ w → outcome s w ≡ Refused r → place_of r < 128
+          judgement s (eqb n (size s)) ≡ Ok tt → (w : Outcome) → method s ≡ w → outcome s w ≡ Err r → place_of r < 128
       by_outcome e (placed ds) q h = never_refused s (λ i. get_or ds i 0) r h
       by_outcome e (stuck p m) q h =
           let f = fit s (eqb n (size s)) e in
@@ -73,7 +72,7 @@ module _ (s : Subjobs) where
       by_judgement :
           (j : Judgement)
           → judgement s (eqb n (size s)) ≡ j
-          → if_passed j (outcome s (method s)) Refused ≡ Refused r
+          → if_passed j (outcome s (method s)) Err ≡ Err r
           → place_of r < 128
-      by_judgement judged.Passed e h = by_outcome e (method s) refl h
-      by_judgement (judged.Refused q) e h = let g : q ≡ r = cc in judged_within s (eqb n (size s)) r (e ∙ ap judged.Refused g)
+      by_judgement (Ok tt) e h = by_outcome e (method s) refl h
+      by_judgement (Err q) e h = let g : q ≡ r = cc in judged_within s (eqb n (size s)) r (e ∙ ap Err g)

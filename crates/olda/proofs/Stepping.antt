@@ -1,5 +1,6 @@
 -- The steps of the method on arrays. What the loop was asked of all holds again of those that are left, their completions
 -- are held, and their steps give what the steps of all give.
+use Rattle.std.specs.Prelude.{Ok, Err}
 use Prim.Native.Nat.{ℕ, suc, ◌+◌, ◌-◌, ◌*◌, ◌<◌, ◌≤◌}
 use mathlib.Core.Bool.{not}
 use mathlib.Core.List.{List, ◌++◌}
@@ -19,7 +20,7 @@ use Rattle.lists.specs.Order.{reversed, choose}
 use Rattle.lists.proofs.Mapped.{part_within}
 use Rattle.lists.proofs.Members.{every_at, every_in, in_every, every_more, every_drop, in_at, without_in, nodup_filter}
 use Rattle.lists.proofs.Sums.{weight_in}
-use Rattle.subjobs.specs.declared.Judgement.TheVariants as judged
+use Rattle.subjobs.specs.Sets.{Subjobs}
 use Rattle.subjobs.specs.declared.Reason.TheVariants.{Late}
 use Rattle.subjobs.specs.Terms.{Terms}
 use Rattle.rules.specs.Method.{stuck, best, base, steps}
@@ -53,21 +54,21 @@ module _
     step_more h = rw (← one_more, job, ← is_best, le-leb _ _ h)
 
 -- n sub-jobs are left of the first `all` of `old`, in the front of os.
-pub record Stepping (js ks rs cs us old kept : List ℕ) (all : ℕ) (os es ls : List ℕ) (n : ℕ) : Type 0 where
-  pub asked : Placing js ks rs cs us os es ls n
-  pub held : take n es ≡ completions (at rs) (at cs) (take n os)
-  pub same : stepped js ks rs cs us os ls n ≡ stepped js ks rs cs us old kept all
+pub record Stepping (X : Subjobs) (us old kept : List ℕ) (all : ℕ) (os es ls : List ℕ) (n : ℕ) : Type 0 where
+  pub asked : Placing X us os es ls n
+  pub held : take n es ≡ completions (at X.releases) (at X.executions) (take n os)
+  pub same : stepped X us os ls n ≡ stepped X us old kept all
 
-module _ {js ks rs cs us os es ls : List ℕ} {n : ℕ} (a : Placing js ks rs cs us os es ls n) where
-  pub stepping_tails : Tails rs cs (take n os) es
+module _ {X : Subjobs} {us os es ls : List ℕ} {n : ℕ} (a : Placing X us os es ls n) where
+  pub stepping_tails : Tails X.releases X.executions (take n os) es
   stepping_tails =
       let l = length-take-le n os a.order in
       record { room = omega (arith, a.ends); few = omega (arith, a.few); each = a.each }
 
   pub stepping_start :
       {es' : List ℕ}
-      → take (length (take n os)) es' ≡ completions (at rs) (at cs) (take n os)
-      → Stepping js ks rs cs us os ls n os es' ls n
+      → take (length (take n os)) es' ≡ completions (at X.releases) (at X.executions) (take n os)
+      → Stepping X us os ls n os es' ls n
   stepping_start {es'} e =
       let l = length-take-le n os a.order in
       record {
@@ -78,7 +79,7 @@ module _ {js ks rs cs us os es ls : List ℕ} {n : ℕ} (a : Placing js ks rs cs
           local = a.local;
           size = a.size;
           order = a.order;
-          ends = omega (arith, ap length e, length-take (length (take n os)) es', completions-length (at rs) (at cs) (take n os));
+          ends = omega (arith, ap length e, length-take (length (take n os)) es', completions-length (at X.releases) (at X.executions) (take n os));
           few = a.few;
           each = a.each;
           once = a.once;
@@ -87,12 +88,12 @@ module _ {js ks rs cs us os es ls : List ℕ} {n : ℕ} (a : Placing js ks rs cs
         same = refl;
       }
 
-module _ {js ks rs cs us old kept : List ℕ} {all : ℕ} {os es ls : List ℕ} {n : ℕ} (s : Stepping js ks rs cs us old kept all os es ls n) where
+module _ {X : Subjobs} {us old kept : List ℕ} {all : ℕ} {os es ls : List ℕ} {n : ℕ} (s : Stepping X us old kept all os es ls n) where
   long : length (take n os) ≡ n
   long = length-take-le n os s.asked.order
 
   -- All are placed.
-  pub stepping_all : n ≤ 0 → Placed js ks rs cs us old kept all judged.Passed ls
+  pub stepping_all : n ≤ 0 → Placed X us old kept all (Ok tt) ls
   unfolding steps
   stepping_all h =
       let z : n ≡ 0 = omega arith in
@@ -104,19 +105,19 @@ module _ {js ks rs cs us old kept : List ℕ} {all : ℕ} {os es ls : List ℕ} 
     base_inside : k < n
     base_inside = omega (arith, g.inside, length-take-le n es s.asked.ends)
 
-    tail : Tail rs cs (drop k (take n os))
+    tail : Tail X.releases X.executions (drop k (take n os))
     tail =
         record {
           some = simp length-drop (omega (arith, long, base_inside));
           few = simp length-drop (omega (arith, long, s.asked.few));
-          each = every_drop (Ranged rs cs) k (take n os) s.asked.each;
+          each = every_drop (Ranged X.releases X.executions) k (take n os) s.asked.each;
         }
 
-    held_at : at es k ≡ completes (at rs) (at cs) (drop k (take n os))
+    held_at : at es k ≡ completes (at X.releases) (at X.executions) (drop k (take n os))
     held_at =
         sym (get_or-take n es k 0 base_inside)
         ∙ ap (λ (ms : List ℕ). at ms k) s.held
-        ∙ completions-at (at rs) (at cs) (take n os) k (omega (arith, long, base_inside))
+        ∙ completions-at (at X.releases) (at X.executions) (take n os) k (omega (arith, long, base_inside))
 
     pub base_fits : Fits w32 (at es k + raise)
     base_fits = record { fits = omega (arith, held_at, tail_most tail) }
@@ -127,19 +128,19 @@ module _ {js ks rs cs us old kept : List ℕ} {all : ℕ} {os es ls : List ℕ} 
           arith,
           get_or-take n es k 0 base_inside,
           held_at,
-          weight_in (at cs) (drop k (take n os)) (in_at (drop k (take n os)) 0 tail.some),
-          (every_at (Ranged rs cs) (drop k (take n os)) 0 tail.some tail.each).some,
+          weight_in (at X.executions) (drop k (take n os)) (in_at (drop k (take n os)) 0 tail.some),
+          (every_at (Ranged X.releases X.executions) (drop k (take n os)) 0 tail.some tail.each).some,
         )
 
-    is_base : (at (take n es) k ≡ best (at rs) (at cs) (take n os)) × (drop k (take n os) ≡ base (at rs) (at cs) (take n os))
+    is_base : (at (take n es) k ≡ best (at X.releases) (at X.executions) (take n os)) × (drop k (take n os) ≡ base (at X.releases) (at X.executions) (take n os))
     is_base =
-        rw (← s.held) at (greatest_tail (at rs) (at cs) (take n os) k (rw s.held at some_execution) (rw s.held at g))
+        rw (← s.held) at (greatest_tail (at X.releases) (at X.executions) (take n os) k (rw s.held at some_execution) (rw s.held at g))
 
     -- The tail handed on.
     part : take (n - k) (drop k os) ≡ drop k (take n os)
     part = part_within os n k (omega (arith, base_inside))
 
-    known : (p : ℕ) → Ranged rs cs p → Known us js ks p
+    known : (p : ℕ) → Ranged X.releases X.executions p → Known us X.jobs X.subtasks p
     known p q =
         record {
           bound = omega (arith, q.inside, s.asked.bounds);
@@ -147,23 +148,23 @@ module _ {js ks rs cs us old kept : List ℕ} {all : ℕ} {os es ls : List ℕ} 
           subtask = omega (arith, q.inside, s.asked.subtasks);
         }
 
-    pub base_choosing : Choosing (take (n - k) (drop k os)) us js ks
+    pub base_choosing : Choosing (take (n - k) (drop k os)) us X.jobs X.subtasks
     base_choosing =
         rw part record {
           some = tail.some;
-          each = every_more (Ranged rs cs) (Known us js ks) known (drop k (take n os)) tail.each;
+          each = every_more (Ranged X.releases X.executions) (Known us X.jobs X.subtasks) known (drop k (take n os)) tail.each;
         }
 
     -- The base sub-job stands at k + j, and its place is p.
-    module _ {j : ℕ} (c : Chosen (take (n - k) (drop k os)) us js ks j) where
+    module _ {j : ℕ} (c : Chosen (take (n - k) (drop k os)) us X.jobs X.subtasks j) where
       job_inside : k + j < n
       job_inside = omega (arith, c.inside, ap length part, length-drop k (take n os), long)
 
       stands : at (take n os) (k + j) ≡ at os (k + j)
       stands = get_or-take n os (k + j) 0 job_inside
 
-      ranged : Ranged rs cs (at os (k + j))
-      ranged = rw (← stands) (every_at (Ranged rs cs) (take n os) (k + j) (omega (arith, job_inside, long)) s.asked.each)
+      ranged : Ranged X.releases X.executions (at os (k + j))
+      ranged = rw (← stands) (every_at (Ranged X.releases X.executions) (take n os) (k + j) (omega (arith, job_inside, long)) s.asked.each)
 
       pub job_bound : at os (k + j) < length us
       job_bound = omega (arith, ranged.inside, s.asked.bounds)
@@ -171,21 +172,21 @@ module _ {js ks rs cs us old kept : List ℕ} {all : ℕ} {os es ls : List ℕ} 
       pub job_local : at os (k + j) < length ls
       job_local = omega (arith, ranged.inside, s.asked.local)
 
-      pub job_execution : at os (k + j) < length cs
+      pub job_execution : at os (k + j) < length X.executions
       job_execution = ranged.known
 
-      is_job : choose (reversed (lower_by us js ks)) (base (at rs) (at cs) (take n os)) ≡ some (at os (k + j))
+      is_job : choose (reversed (lower_by us X.jobs X.subtasks)) (base (at X.releases) (at X.executions) (take n os)) ≡ some (at os (k + j))
       is_job =
           rw (← is_base.1, ← part)
           (c.last ∙ ap some (get_or-take (n - k) (drop k os) j 0 (omega (arith, job_inside)) ∙ get_or-drop k os j 0))
 
-      is_best : at es k ≡ best (at rs) (at cs) (take n os)
+      is_best : at es k ≡ best (at X.releases) (at X.executions) (take n os)
       is_best = sym (get_or-take n es k 0 base_inside) ∙ is_base.0
 
       -- It leaves, with its execution,
-      module _ (v : ℕ) (q : v ≡ at cs (at os (k + j))) where
-        same_execution : at cs (at (take n os) (k + j)) ≡ v
-        same_execution = ap (at cs) stands ∙ sym q
+      module _ (v : ℕ) (q : v ≡ at X.executions (at os (k + j))) where
+        same_execution : at X.executions (at (take n os) (k + j)) ≡ v
+        same_execution = ap (at X.executions) stands ∙ sym q
 
         pub job_leaving : Leaving (take n os) (take n es) (k + j) v
         job_leaving =
@@ -193,7 +194,7 @@ module _ {js ks rs cs us old kept : List ℕ} {all : ℕ} {os es ls : List ℕ} 
             record {
               order = h;
               ends = omega (arith, job_inside, length-take-le n es s.asked.ends);
-              enough = held_enough (at rs) (at cs) (take n os) (take n es) (k + j) v s.held h same_execution;
+              enough = held_enough (at X.releases) (at X.executions) (take n os) (take n es) (k + j) v s.held h same_execution;
             }
 
       -- Step 3 fails: its bound lies before the completion.
@@ -202,11 +203,11 @@ module _ {js ks rs cs us old kept : List ℕ} {all : ℕ} {os es ls : List ℕ} 
           → 0 < n
           → at us (at os (k + j)) < at es k + raise
           → b ≡ sub_ℕ (at us (at os (k + j))) raise
-          → Placed js ks rs cs us old kept all (judged.Refused (Late (at os (k + j)) (at es k) b)) ls
+          → Placed X us old kept all (Err (Late (at os (k + j)) (at es k) b)) ls
       stepping_late o h q =
           let e =
           sym s.same
-          ∙ step_late (raised js ks rs cs us) (n - 1) n (take n os) (take (length rs) ls) (at os (k + j)) (at es k) (omega arith) is_job is_best h
+          ∙ step_late (raised X us) (n - 1) n (take n os) (take (length X.releases) ls) (at os (k + j)) (at es k) (omega arith) is_job is_best h
           in
           record { ruled = rw (e, q); list = rw e }
 
@@ -215,8 +216,8 @@ module _ {js ks rs cs us old kept : List ℕ} {all : ℕ} {os es ls : List ℕ} 
           {os' es' : List ℕ}
           → 0 < n
           → at es k + raise ≤ at us (at os (k + j))
-          → Left (take n os) (take n es) (k + j) (at cs (at os (k + j))) os' es'
-          → Stepping js ks rs cs us old kept all (os' ++ drop n os) (es' ++ drop n es) (set ls (at os (k + j)) (at es k)) (n - 1)
+          → Left (take n os) (take n es) (k + j) (at X.executions (at os (k + j))) os' es'
+          → Stepping X us old kept all (os' ++ drop n os) (es' ++ drop n es) (set ls (at os (k + j)) (at es k)) (n - 1)
       stepping_next {os'} {es'} o h l =
           let xs = take n os in
           let p = at os (k + j) in
@@ -224,14 +225,14 @@ module _ {js ks rs cs us old kept : List ℕ} {all : ℕ} {os es ls : List ℕ} 
           let one = length_rest xs (k + j) i in
           let order = shorter os' (drop n os) (rest (k + j) xs) (length xs) n long (omega (arith, one, long)) l.order in
           let ends =
-          l.ends ∙ held_rest (at rs) (at cs) xs (take n es) (k + j) (at cs p) s.held i (ap (at cs) stands)
+          l.ends ∙ held_rest (at X.releases) (at X.executions) xs (take n es) (k + j) (at X.executions p) s.held i (ap (at X.executions) stands)
           in
-          let fewer : length (completions (at rs) (at cs) (rest (k + j) xs)) + 1 ≡ n =
-          omega (arith, completions-length (at rs) (at cs) (rest (k + j) xs), one, long)
+          let fewer : length (completions (at X.releases) (at X.executions) (rest (k + j) xs)) + 1 ≡ n =
+          omega (arith, completions-length (at X.releases) (at X.executions) (rest (k + j) xs), one, long)
           in
           let held =
-          shorter es' (drop n es) (completions (at rs) (at cs) (rest (k + j) xs)) (length (take n es)) n (length-take-le n es s.asked.ends) fewer ends
-          ∙ ap (completions (at rs) (at cs)) (sym order)
+          shorter es' (drop n es) (completions (at X.releases) (at X.executions) (rest (k + j) xs)) (length (take n es)) n (length-take-le n es s.asked.ends) fewer ends
+          ∙ ap (completions (at X.releases) (at X.executions)) (sym order)
           in
           let w : take (n - 1) (os' ++ drop n os) ≡ without p xs =
           order ∙ sym (without_at xs (k + j) s.asked.once i) ∙ ap (λ (b : ℕ). without b xs) stands
@@ -244,12 +245,12 @@ module _ {js ks rs cs us old kept : List ℕ} {all : ℕ} {os es ls : List ℕ} 
               local = simp length-set s.asked.local;
               size = s.asked.size;
               order = omega (arith, ap length order, length-take (n - 1) (os' ++ drop n os), one, long);
-              ends = omega (arith, ap length held, ap length order, length-take (n - 1) (es' ++ drop n es), completions-length (at rs) (at cs) (take (n - 1) (os' ++ drop n os)), one, long);
+              ends = omega (arith, ap length held, ap length order, length-take (n - 1) (es' ++ drop n es), completions-length (at X.releases) (at X.executions) (take (n - 1) (os' ++ drop n os)), one, long);
               few = omega (arith, s.asked.few);
-              each = rw w (in_every (Ranged rs cs) (without p xs) (λ i m. every_in (Ranged rs cs) xs s.asked.each (without_in p xs m).0));
+              each = rw w (in_every (Ranged X.releases X.executions) (without p xs) (λ i m. every_in (Ranged X.releases X.executions) xs s.asked.each (without_in p xs m).0));
               once = rw w (nodup_filter (λ i. not (eqb i p)) xs s.asked.once);
             };
             held = held;
-            same = rw (w, take-set-lt (length rs) ls p (at es k) ranged.inside)
-                (sym (step_more (raised js ks rs cs us) (n - 1) n xs (take (length rs) ls) p (at es k) (omega arith) is_job is_best h) ∙ s.same);
+            same = rw (w, take-set-lt (length X.releases) ls p (at es k) ranged.inside)
+                (sym (step_more (raised X us) (n - 1) n xs (take (length X.releases) ls) p (at es k) (omega arith) is_job is_best h) ∙ s.same);
           }

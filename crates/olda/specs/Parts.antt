@@ -9,25 +9,23 @@
 --   raise               == what upper bounds are raised by, so that none is negative
 --   limits ds zs        == what the rules read of deadlines and critical times alone
 --   lower_by us js ks    == the order of the base sub-job, of raised bounds and pairs
---   raised js ks rs cs us == what they read of pairs, releases, executions and raised bounds: nothing but the raise is withheld
+--   raised s us          == what they read of a set with raised bounds: nothing but the raise is withheld
 --   Raised T n us       == us are the upper bounds of the first n places, raised
 --   ruling T w          == what an outcome says of a set: it passes, or the reason why not
 --   reported T n d      == the report of n sub-jobs with the local deadlines d
 --
 -- The records are named by what is done with the lists: what is asked before it, and what is told after it.
-use Rattle.std.specs.Prelude.{ℕ, zero, suc, ◌+◌, ◌-◌, ◌<◌, ◌≤◌, Bool, List, [], ◌∷◌, ◌++◌, ◌≡◌, eqb, length, get_or, map, take, drop}
+use Rattle.std.specs.Prelude.{Option, Ok, Err, Some, None, ℕ, zero, suc, ◌+◌, ◌-◌, ◌<◌, ◌≤◌, Bool, List, [], ◌∷◌, ◌++◌, ◌≡◌, eqb, length, get_or, map, take, drop}
 use Rattle.std.proofs.Math.Option.{some}
 use Rattle.lists.specs.Places.{places, weight, Every, Nodup}
 use Rattle.lists.specs.Order.{by, lex, reversed, choose, given}
-use Rattle.subjobs.specs.declared.Judgement.{Judgement}
-use Rattle.subjobs.specs.declared.Judgement.TheVariants as judged
+use Rattle.subjobs.specs.Judging.{Judgement, passed}
 use Rattle.subjobs.specs.declared.Reason.TheVariants.{Late}
-use Rattle.subjobs.specs.Sets.{Subjobs, subjobs, size, by_pair}
+use Rattle.subjobs.specs.Sets.{Subjobs, subjobs, release, execution, by_pair}
 use Rattle.subjobs.specs.Terms.{Terms, terms, bound, slack, by_slack}
 use Rattle.subjobs.specs.Faults.{Fit}
 use Rattle.rules.specs.Method.{Outcome, placed, stuck, in_order, steps, method}
-use Rattle.olda.specs.declared.Answer.{Answer}
-use Rattle.olda.specs.declared.Answer.TheVariants as answered
+use Rattle.olda.specs.declared.Report.{Report}
 use Rattle.olda.specs.Answers.{written}
 
 abbrev pub at : List ℕ → ℕ → ℕ
@@ -57,19 +55,25 @@ limits ds zs = terms (subjobs [] [] [] [] ds zs)
 abbrev pub lower_by : (us js ks : List ℕ) → ℕ → ℕ → Bool
 lower_by us js ks = lex (by (at us)) (by_pair (at js) (at ks))
 
-abbrev pub raised : (js ks rs cs us : List ℕ) → Terms
-raised js ks rs cs us =
-    record { release = at rs; execution = at cs; deadline = at us; withheld = λ i. raise; lower = lower_by us js ks }
+abbrev pub raised : Subjobs → (us : List ℕ) → Terms
+raised s us =
+    record {
+      release = release s;
+      execution = execution s;
+      deadline = at us;
+      withheld = λ i. raise;
+      lower = lower_by us s.jobs s.subtasks;
+    }
 
 abbrev pub Raised : Terms → ℕ → List ℕ → Type 0
 Raised T n us = (i : ℕ) → i < n → at us i + T.withheld i ≡ T.deadline i + raise
 
 abbrev pub ruling : Terms → Outcome → Judgement
-ruling T (placed ds) = judged.Passed
-ruling T (stuck p m) = judged.Refused (Late p m (bound T p))
+ruling T (placed ds) = passed
+ruling T (stuck p m) = Err (Late p m (bound T p))
 
-abbrev pub reported : Terms → ℕ → (ℕ → ℕ) → Answer
-reported T n d = given (choose (by_slack T d) (places n)) answered.Nothing (λ p. answered.Placed (record { slack = slack T d p; place = p }))
+abbrev pub reported : Terms → ℕ → (ℕ → ℕ) → Option Report
+reported T n d = given (choose (by_slack T d) (places n)) None (λ p. Some (record { slack = slack T d p; place = p }))
 
 -- Bounds are raised.
 pub record Raising (ds zs us : List ℕ) : Type 0 where
@@ -142,29 +146,25 @@ pub record Left (os es : List ℕ) (k x : ℕ) (os' es' : List ℕ) : Type 0 whe
   pub ends : take (length es - 1) es' ≡ rest k (lessened k x es)
 
 -- The steps are taken on the first n places of os, with room for the completions and for the local deadlines.
-pub record Placing (js ks rs cs us os es ls : List ℕ) (n : ℕ) : Type 0 where
-  pub size : length rs ≤ 128
-  pub jobs : length rs ≤ length js
-  pub subtasks : length rs ≤ length ks
-  pub bounds : length rs ≤ length us
-  pub local : length rs ≤ length ls
+pub record Placing (s : Subjobs) (us os es ls : List ℕ) (n : ℕ) : Type 0 where
+  pub size : length s.releases ≤ 128
+  pub jobs : length s.releases ≤ length s.jobs
+  pub subtasks : length s.releases ≤ length s.subtasks
+  pub bounds : length s.releases ≤ length us
+  pub local : length s.releases ≤ length ls
   pub order : n ≤ length os
   pub ends : n ≤ length es
   pub few : n ≤ 128
-  pub each : Every (Ranged rs cs) (take n os)
+  pub each : Every (Ranged s.releases s.executions) (take n os)
   pub once : Nodup (take n os)
 
 -- They are told as r, and if all are placed the list holds their deadlines.
-abbrev pub stepped : (js ks rs cs us os ls : List ℕ) → ℕ → Outcome
-stepped js ks rs cs us os ls n = steps (raised js ks rs cs us) n (take n os) (take (length rs) ls)
+abbrev pub stepped : Subjobs → (us os ls : List ℕ) → ℕ → Outcome
+stepped s us os ls n = steps (raised s us) n (take n os) (take (length s.releases) ls)
 
-pub record Placed (js ks rs cs us os ls : List ℕ) (n : ℕ) (r : Judgement) (ls' : List ℕ) : Type 0 where
-  pub ruled : r ≡ ruling (raised js ks rs cs us) (stepped js ks rs cs us os ls n)
-  pub list : take (length rs) ls' ≡ written (stepped js ks rs cs us os ls n) (take (length rs) ls')
-
--- A set that fits, with a result list as long as it is, is placed.
-abbrev pub Fits : Subjobs → List ℕ → Type 0
-Fits s out = Fit s (eqb (length out) (size s))
+pub record Placed (s : Subjobs) (us os ls : List ℕ) (n : ℕ) (r : Judgement) (ls' : List ℕ) : Type 0 where
+  pub ruled : r ≡ ruling (raised s us) (stepped s us os ls n)
+  pub list : take (length s.releases) ls' ≡ written (stepped s us os ls n) (take (length s.releases) ls')
 
 -- The outcome of the method is told as r, and the result list is written if all are placed.
 pub record Places (s : Subjobs) (out : List ℕ) (r : Judgement) (out' : List ℕ) : Type 0 where

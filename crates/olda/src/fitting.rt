@@ -1,71 +1,41 @@
 // The assignment of a set that fits, that is, one that passes refusals 1 to 4.
-ghost use Rattle.std.specs.Prelude.{◌≤◌, length};
-ghost use Rattle.subjobs.specs.Sets.{subjobs};
-ghost use Rattle.olda.specs.Parts.{Fits, Places};
+ghost use Rattle.std.specs.Prelude.{◌≡◌, ◌≤◌, length};
+ghost use Rattle.subjobs.specs.Sets.{subjobs_of, size};
+ghost use Rattle.olda.specs.Parts.{Places};
 
 use crate::bounding::raise;
 use crate::placing::place_all;
 use crate::sorting::in_order;
-use subjobs::Judgement;
+use subjobs::{FitSet, Reason};
 
 // The steps, with room made here for up to N sub-jobs: the raised bounds, the local deadlines, the places in release order
 // and the completions of their tails. The result list is written when all have their deadlines, and not before.
-fn place_in<const N: usize>(
-    jobs: &[u32],
-    subtasks: &[u32],
-    releases: &[u32],
-    executions: &[u32],
-    deadlines: &[u32],
-    criticals: &[u32],
-    out: &mut [u32],
-) -> Judgement
-    requires fits { Fits (subjobs jobs.now subtasks.now releases.now executions.now deadlines.now criticals.now)
-        out.old }
-    requires room { (length jobs.now ≤ N) × (N ≤ 128) }
-    ensures { Places (subjobs jobs.now subtasks.now releases.now
-        executions.now deadlines.now criticals.now)
-        out.old result out.new }
+fn place_in<const N: usize>(fit: &FitSet<'_>, out: &mut [u32]) -> Result<(), Reason>
+    requires out { length out.old ≡ size (subjobs_of fit.now.set) }
+    requires room { (size (subjobs_of fit.now.set) ≤ N) × (N ≤ 128) }
+    ensures { Places (subjobs_of fit.now.set) out.old result out.new }
 {
-    let count = releases.len();
+    let set = &fit.set;
+    let count = set.releases.len();
     let mut bounds = [0u32; N];
     let mut local = [0u32; N];
     let mut order = [0u32; N];
     let mut ends = [0u32; N];
-    raise(deadlines, criticals, &mut bounds);
-    in_order(releases, &mut order);
-    let judgement = place_all(
-        jobs, subtasks, releases, executions, &bounds, &mut order, &mut ends, &mut local, count,
-    );
-    if let Judgement::Refused(reason) = judgement {
-        return Judgement::Refused(reason);
-    }
+    raise(set.deadlines, set.criticals, &mut bounds);
+    in_order(set.releases, &mut order);
+    place_all(set, &bounds, &mut order, &mut ends, &mut local, count)?;
     out.copy_from_slice(&local[..count]);
-    Judgement::Passed
+    Ok(())
 }
 
 // Places a set that fits. For up to 8 sub-jobs less room is cleared before each call.
-pub(crate) fn place(
-    jobs: &[u32],
-    subtasks: &[u32],
-    releases: &[u32],
-    executions: &[u32],
-    deadlines: &[u32],
-    criticals: &[u32],
-    out: &mut [u32],
-) -> Judgement
-    requires { Fits (subjobs jobs.now subtasks.now releases.now executions.now deadlines.now criticals.now)
-        out.old }
-    ensures { Places (subjobs jobs.now subtasks.now releases.now
-        executions.now deadlines.now criticals.now)
-        out.old result out.new }
+pub(crate) fn place(fit: &FitSet<'_>, out: &mut [u32]) -> Result<(), Reason>
+    requires { length out.old ≡ size (subjobs_of fit.now.set) }
+    ensures { Places (subjobs_of fit.now.set) out.old result out.new }
 {
-    if jobs.len() <= 8 {
-        place_in::<8>(
-            jobs, subtasks, releases, executions, deadlines, criticals, out,
-        )
+    if fit.set.jobs.len() <= 8 {
+        place_in::<8>(fit, out)
     } else {
-        place_in::<128>(
-            jobs, subtasks, releases, executions, deadlines, criticals, out,
-        )
+        place_in::<128>(fit, out)
     }
 }

@@ -6,10 +6,10 @@
 // `tailing::completions`, and which sub-jobs are placed in the count and the order that `placing::place_all` is given.
 #![tactic(auto)]
 
-ghost use Rattle.subjobs.specs.Sets.{subjobs};
+ghost use Rattle.subjobs.specs.Sets.{subjobs_of};
 ghost use Rattle.olda.specs.Answers.{Assigns};
 
-use subjobs::{Judgement, Reason};
+use subjobs::{Reason, Set};
 
 mod bounding;
 mod choosing;
@@ -26,41 +26,12 @@ pub struct Report {
     pub place: usize,
 }
 
-// What the assignment says of a set.
-#[derive(Drop)]
-pub enum Answer {
-    Placed(Report),
-    Nothing,
-    Refused(Reason),
-}
-
-// Gives each sub-job of a set its local deadline, at its place of the result list. After a refusal the result list
-// holds what it held before.
-pub fn assign(
-    jobs: &[u32],
-    subtasks: &[u32],
-    releases: &[u32],
-    executions: &[u32],
-    deadlines: &[u32],
-    criticals: &[u32],
-    out: &mut [u32],
-) -> Answer
-    ensures { Assigns (subjobs jobs.now subtasks.now releases.now
-        executions.now deadlines.now criticals.now)
-        out.old result out.new }
+// Gives each sub-job of a set its local deadline, at its place of the result list, and reports the least slack; of an empty
+// set there is nothing to report. After a refusal the result list holds what it held before.
+pub fn assign(set: &Set<'_>, out: &mut [u32]) -> Result<Option<Report>, Reason>
+    ensures { Assigns (subjobs_of set.now) out.old result out.new }
 {
-    let others = out.len() == jobs.len();
-    let judgement = subjobs::judge(
-        jobs, subtasks, releases, executions, deadlines, criticals, others,
-    );
-    if let Judgement::Refused(reason) = judgement {
-        return Answer::Refused(reason);
-    }
-    let placed = fitting::place(
-        jobs, subtasks, releases, executions, deadlines, criticals, out,
-    );
-    match placed {
-        Judgement::Refused(reason) => Answer::Refused(reason),
-        Judgement::Passed => reporting::report(deadlines, criticals, out),
-    }
+    let fit = set.judge(out.len() == set.jobs.len())?;
+    fitting::place(&fit, out)?;
+    Ok(reporting::report(set.deadlines, set.criticals, out))
 }

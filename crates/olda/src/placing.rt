@@ -1,11 +1,12 @@
 // The steps of the method: as long as a sub-job is left, the base sub-job gets the completion and leaves.
 ghost use Rattle.std.specs.Prelude.{ℕ, ◌-◌, ◌<◌, ◌≤◌, ◌≡◌, length, map, take};
+ghost use Rattle.subjobs.specs.Sets.{subjobs_of};
 ghost use Rattle.olda.specs.Parts.{at, rest, Leaving, Left, Placing, Placed};
 
 use crate::bounding::{RAISE, signed};
 use crate::choosing::base_job;
 use crate::tailing::{base_tail, completions};
-use subjobs::{Judgement, Reason};
+use subjobs::{Reason, Set};
 
 // Takes out what stands at k; the numbers behind it move down by one, and the last place is free.
 fn remove(a: &mut [u32], k: usize)
@@ -38,36 +39,36 @@ fn take_out(order: &mut [u32], ends: &mut [u32], k: usize, execution: u32)
 // The steps over the first `count` sub-jobs of `order`, whose places stand there in release order. The deadlines go into
 // `local`, each at its place.
 pub(crate) fn place_all(
-    jobs: &[u32],
-    subtasks: &[u32],
-    releases: &[u32],
-    executions: &[u32],
+    set: &Set<'_>,
     bounds: &[u32],
     order: &mut [u32],
     ends: &mut [u32],
     local: &mut [u32],
     count: usize,
-) -> Judgement
-    requires { Placing jobs.now subtasks.now releases.now executions.now bounds.now
-        order.old ends.old local.old count }
-    ensures { Placed jobs.now subtasks.now releases.now executions.now
-        bounds.now order.old local.old count result local.new }
+) -> Result<(), Reason>
+    requires { Placing (subjobs_of set.now) bounds.now order.old ends.old local.old count }
+    ensures { Placed (subjobs_of set.now) bounds.now order.old local.old count result local.new }
 {
-    completions(&order[..count], releases, executions, ends);
+    completions(&order[..count], set.releases, set.executions, ends);
     for left in (1..=count).rev() {
         let start = base_tail(&ends[..left]);
         let completion = ends[start];
-        let at = start + base_job(&order[start..left], bounds, jobs, subtasks);
+        let at = start + base_job(&order[start..left], bounds, set.jobs, set.subtasks);
         let place = order[at] as usize;
         if bounds[place] < completion + RAISE {
-            return Judgement::Refused(Reason::Late {
+            return Err(Reason::Late {
                 place,
                 completion,
                 bound: signed(bounds[place]),
             });
         }
         local[place] = completion;
-        take_out(&mut order[..left], &mut ends[..left], at, executions[place]);
+        take_out(
+            &mut order[..left],
+            &mut ends[..left],
+            at,
+            set.executions[place],
+        );
     }
-    Judgement::Passed
+    Ok(())
 }

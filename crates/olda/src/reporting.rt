@@ -3,8 +3,8 @@ ghost use Rattle.std.specs.Prelude.{◌+◌, ◌<◌, [], ◌≡◌, length};
 ghost use Rattle.subjobs.specs.Terms.{by_slack};
 ghost use Rattle.olda.specs.Parts.{at, limits, reported, Reporting, Tightest};
 
+use crate::Report;
 use crate::bounding::{difference, withheld};
-use crate::{Answer, Report};
 
 // How far a sub-job reaches: its local deadline plus what is withheld. The slack is what its deadline leaves of that.
 fn reach(criticals: &[u32], local: &[u32], i: usize) -> u64
@@ -40,14 +40,14 @@ fn least_slack(deadlines: &[u32], criticals: &[u32], local: &[u32]) -> usize
 }
 
 // The report of an accepted set that got these local deadlines.
-pub(crate) fn report(deadlines: &[u32], criticals: &[u32], local: &[u32]) -> Answer
+pub(crate) fn report(deadlines: &[u32], criticals: &[u32], local: &[u32]) -> Option<Report>
     requires { Reporting deadlines.now criticals.now local.now }
     ensures { result ≡ reported (limits deadlines.now criticals.now) (length local.now) (at local.now) }
 {
     if local.len() == 0 {
-        return Answer::Nothing;
+        return None;
     }
     let p = least_slack(deadlines, criticals, local);
     let slack = difference(deadlines[p], reach(criticals, local, p));
-    Answer::Placed(Report { slack, place: p })
+    Some(Report { slack, place: p })
 }

@@ -30,8 +30,8 @@ pub bounds-local-place : goal.bounds-local-place
 bounds-local-place c =
     job_local c.loop-left.invariant.0 c.base_tail-start.ensures c.base_job.ensures
 
-pub bounds-executions-place : goal.bounds-executions-place
-bounds-executions-place c =
+pub bounds-set-place : goal.bounds-set-place
+bounds-set-place c =
     job_execution c.loop-left.invariant.0 c.base_tail-start.ensures c.base_job.ensures
 
 pub take_out-requires : goal.take_out-requires
