@@ -6,7 +6,7 @@ use Rattle.std.proofs.lemmas.List.Recursion.{is_sum_by}
 use Rattle.std.proofs.lemmas.List.Sums.{sum-map}
 use mathlib.Core.Path.{◌≡◌, refl, sym, ap, ◌∙◌}
 use native.Mathlib.Omega.{arith}
-use lib.ListN.{length, take, drop, set, length-drop, length-map, drop_of_length-le}
+use lib.ListN.{length, take, drop, set, length-drop, length-map}
 use lib.Seq.{drop-cons, drop-drop, drop-set-lt, take_all, take-set-lt}
 use Rattle.lists.specs.Places.{weight, Every}
 use Rattle.lists.proofs.Mapped.{at_map, take_more, part_within}

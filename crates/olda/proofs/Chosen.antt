@@ -13,11 +13,11 @@ use lib.Seq.{drop-cons}
 use Rattle.lists.specs.Places.{places}
 use Rattle.lists.specs.Order.{reversed, ahead, choose}
 use Rattle.lists.proofs.Cases.{split}
-use Rattle.lists.proofs.Members.{every_at, from-length}
+use Rattle.lists.proofs.Members.{from-length}
 use Rattle.lists.proofs.Mapped.{places_at}
 use Rattle.subjobs.specs.Sets.{by_pair}
 use Rattle.subjobs.specs.Terms.{by_slack}
-use Rattle.olda.specs.Parts.{at, limits, lower_by, Known, Choosing, Chosen, Reporting, Tightest}
+use Rattle.olda.specs.Parts.{at, limits, lower_by, Choosing, Chosen, Tightest}
 
 -- Of the first i of xs p is chosen: against those left it is the choice of all.
 pub record Ahead (lt : ℕ → ℕ → Bool) (xs : List ℕ) (p i : ℕ) : Type 0 where

@@ -2,13 +2,11 @@
 -- a sub-job leaves.
 use Prim.Native.Nat.{ℕ, zero, suc, ◌+◌, ◌-◌, ◌<◌, ◌≤◌}
 use mathlib.Core.List.{List, [], ◌∷◌}
-use mathlib.Core.Path.{◌≡◌, refl, ap, ◌∙◌}
-use native.Mathlib.Numerals.{add-one}
+use mathlib.Core.Path.{◌≡◌, refl, ap}
 use native.Mathlib.Omega.{arith}
 use borrow.Author.Count.{below_more}
 use borrow.Author.Tests.{lt-ltb, le-ltb}
-use lib.ListN.{length, take, drop, set}
-use lib.Seq.{get_or-take}
+use lib.ListN.{length, drop}
 use Rattle.lists.specs.Places.{weight}
 use Rattle.lists.proofs.Members.{in_at}
 use Rattle.lists.proofs.Sums.{weight_in, weight-length}

@@ -1,16 +1,14 @@
 -- Upper bounds raised: no number is negative, and whatever is asked of bounds has the same answer. With raised bounds
 -- nothing is left to withhold but the raise itself.
-use Prim.Native.Nat.{ℕ, zero, suc, ◌+◌, ◌-◌, ◌<◌, ◌≤◌}
+use Prim.Native.Nat.{ℕ, zero, suc, ◌+◌, ◌-◌, ◌<◌}
 use mathlib.Core.Bool.{Bool}
 use mathlib.Core.List.{List, [], ◌∷◌}
 use mathlib.Core.Option.{Option, none, some}
 use mathlib.Core.Path.{◌≡◌, refl, ap}
 use native.Mathlib.Omega.{arith}
 use lib.Dec.{leb, eqb}
-use lib.ListN.{length, set, length-set}
+use lib.ListN.{length, set}
 use lib.Seq.{get_or-set_same, get_or-set_other}
-use mir.Syntax.{w32}
-use mir.Val.{Fits}
 use Rattle.lists.specs.Places.{Every, without}
 use Rattle.lists.specs.Order.{by, reversed, ahead, choose, given}
 use Rattle.lists.proofs.Cases.{test, tests, eqb_no, same_ltb, same_leb}

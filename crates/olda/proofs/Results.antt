@@ -8,31 +8,22 @@ use mathlib.Core.Path.{◌≡◌, refl, sym, ap, ◌∙◌}
 use native.Mathlib.Omega.{arith}
 use borrow.Author.Tests.{eqb-true}
 use lib.Dec.{eqb}
-use lib.ListN.{length, get_or}
+use lib.ListN.{length}
 use Rattle.lists.specs.Places.{places}
-use Rattle.lists.proofs.Cases.{split}
 use Rattle.lists.proofs.Members.{places_in}
-use Rattle.lists.proofs.Choice.{choose_cases}
 use Rattle.subjobs.specs.declared.Reason.{Reason}
 use Rattle.subjobs.specs.declared.Reason.TheVariants.{Late}
 use Rattle.subjobs.specs.Judging.{Judgement}
 use Rattle.subjobs.specs.Reasons.{place_of}
 use Rattle.subjobs.specs.Sets.{Subjobs, size}
-use Rattle.subjobs.specs.Terms.{terms, bound, by_slack}
+use Rattle.subjobs.specs.Terms.{terms, bound}
 use Rattle.subjobs.specs.Judging.{judgement, if_passed}
 use Rattle.subjobs.proofs.Fit.{Fit, fit}
 use Rattle.subjobs.proofs.Reported.{judged_within}
 use Rattle.rules.specs.Method.{Outcome, placed, stuck, method}
 use Rattle.rules.proofs.Rules.{refused_in}
 use Rattle.rules.proofs.Obeys.{method-placed, method-stuck}
-use Rattle.olda.specs.Answers.{report, outcome, answer, written, results}
-
-pub never_refused : {X : Type 0} (s : Subjobs) (d : ℕ → ℕ) (r : Reason) → report s d ≡ Err r → X
-unfolding report
-never_refused s d r e =
-    split (choose_cases (by_slack (terms s) d) (places (size s)))
-    (λ w. let h = rw w.1 at e in let z : ◌≡◌ {A = ℕ} 0 1 = cc in absurd (omega arith))
-    (λ w. let h = rw w.2 at e in let z : ◌≡◌ {A = ℕ} 0 1 = cc in absurd (omega arith))
+use Rattle.olda.specs.Answers.{outcome, answer, written, results}
 
 module _ (s : Subjobs) where
   module _ {others : Bool} (f : Fit s others) where
@@ -63,7 +54,7 @@ module _ (s : Subjobs) where
     where
       by_outcome :
           judgement s (eqb n (size s)) ≡ Ok tt → (w : Outcome) → method s ≡ w → outcome s w ≡ Err r → place_of r < 128
-      by_outcome e (placed ds) q h = never_refused s (λ i. get_or ds i 0) r h
+      by_outcome e (placed ds) q h = let z : ◌≡◌ {A = ℕ} 0 1 = cc in absurd (omega arith)
       by_outcome e (stuck p m) q h =
           let f = fit s (eqb n (size s)) e in
           let k : Late p m (bound (terms s) p) ≡ r = cc in

@@ -1,7 +1,7 @@
 -- The steps of the method on arrays. What the loop was asked of all holds again of those that are left, their completions
 -- are held, and their steps give what the steps of all give.
 use Rattle.std.specs.Prelude.{Ok, Err}
-use Prim.Native.Nat.{ℕ, suc, ◌+◌, ◌-◌, ◌*◌, ◌<◌, ◌≤◌}
+use Prim.Native.Nat.{ℕ, suc, ◌+◌, ◌-◌, ◌<◌, ◌≤◌}
 use mathlib.Core.Bool.{not}
 use mathlib.Core.List.{List, ◌++◌}
 use mathlib.Core.Option.{some}

@@ -15,7 +15,7 @@
 --   reported T n d      == the report of n sub-jobs with the local deadlines d
 --
 -- The records are named by what is done with the lists: what is asked before it, and what is told after it.
-use Rattle.std.specs.Prelude.{Option, Ok, Err, Some, None, ℕ, zero, suc, ◌+◌, ◌-◌, ◌<◌, ◌≤◌, Bool, List, [], ◌∷◌, ◌++◌, ◌≡◌, eqb, length, get_or, map, take, drop}
+use Rattle.std.specs.Prelude.{Option, Err, Some, None, ℕ, suc, ◌+◌, ◌-◌, ◌<◌, ◌≤◌, Bool, List, [], ◌∷◌, ◌++◌, ◌≡◌, length, get_or, map, take, drop}
 use Rattle.std.proofs.Math.Option.{some}
 use Rattle.lists.specs.Places.{places, weight, Every, Nodup}
 use Rattle.lists.specs.Order.{by, lex, reversed, choose, given}
@@ -23,7 +23,6 @@ use Rattle.subjobs.specs.Judging.{Judgement, passed}
 use Rattle.subjobs.specs.declared.Reason.TheVariants.{Late}
 use Rattle.subjobs.specs.Sets.{Subjobs, subjobs, release, execution, by_pair}
 use Rattle.subjobs.specs.Terms.{Terms, terms, bound, slack, by_slack}
-use Rattle.subjobs.specs.Faults.{Fit}
 use Rattle.rules.specs.Method.{Outcome, placed, stuck, in_order, steps, method}
 use Rattle.olda.specs.declared.Report.{Report}
 use Rattle.olda.specs.Answers.{written}
@@ -171,11 +170,7 @@ pub record Places (s : Subjobs) (out : List ℕ) (r : Judgement) (out' : List �
   pub ruled : r ≡ ruling (terms s) (method s)
   pub list : out' ≡ written (method s) out
 
--- Local deadlines are reported.
-pub record Reporting (ds zs ls : List ℕ) : Type 0 where
-  pub deadlines : length ls ≤ length ds
-  pub criticals : length ls ≤ length zs
-
+-- The least slack is that of p.
 pub record Tightest (ds zs ls : List ℕ) (p : ℕ) : Type 0 where
   pub inside : p < length ls
   pub least : choose (by_slack (limits ds zs) (at ls)) (places (length ls)) ≡ some p

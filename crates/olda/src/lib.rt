@@ -9,6 +9,7 @@
 ghost use Rattle.subjobs.specs.Sets.{subjobs_of};
 ghost use Rattle.olda.specs.Answers.{Assigns};
 
+use reporting::Accepted;
 use subjobs::{Reason, Set};
 
 mod bounding;
@@ -33,5 +34,10 @@ pub fn assign(set: &Set<'_>, out: &mut [u32]) -> Result<Option<Report>, Reason>
 {
     let fit = set.judge(out.len() == set.jobs.len())?;
     fitting::place(&fit, out)?;
-    Ok(reporting::report(set.deadlines, set.criticals, out))
+    let accepted = Accepted {
+        deadlines: set.deadlines,
+        criticals: set.criticals,
+        local: out,
+    };
+    Ok(accepted.report())
 }

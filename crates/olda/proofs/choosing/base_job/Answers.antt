@@ -1,5 +1,5 @@
 -- `choosing::base_job` meets its contract: of those looked at so far the one found is the base sub-job.
-use Rattle.std.proofs.Common.{rules, arith, inl, inr, sym, ◌∙◌}
+use Rattle.std.proofs.Common.{arith, inl, inr, sym, ◌∙◌}
 use borrow.Author.Tests.{ne_eqb}
 use Rattle.lists.proofs.Cases.{clash}
 use Rattle.olda.proofs.Chosen.{topped_one, topped_new, topped_old, topped_all}

@@ -1,8 +1,7 @@
 -- `placing::place_all` meets its contract: the steps of what is left are the steps of all.
-use Rattle.std.proofs.Common.{rules, arith, refl, ap, ◌∙◌, to_z-of_z, w64}
+use Rattle.std.proofs.Common.{rules, arith, refl, ◌∙◌, to_z-of_z, w64}
 use borrow.Author.Rules.{sfits_of}
-use Rattle.std.proofs.Math.ListN.{length-set}
-use Rattle.olda.proofs.Stepping.{stepping_tails, stepping_start, stepping_all, stepping_late, stepping_next, base_fits, base_choosing, job_bound, job_local, job_execution, job_leaving}
+use Rattle.olda.proofs.Stepping.{stepping_all, stepping_late, stepping_next, base_fits, base_choosing, job_bound, job_local, job_execution, job_leaving}
 use Rattle.olda.proofs.placing.place_all.Goals as goal
 
 pub base_job-requires : goal.base_job-requires

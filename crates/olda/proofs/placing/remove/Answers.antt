@@ -1,5 +1,5 @@
 -- `placing::remove` meets its contract: turned by one, the part from k on ends with what stood at k.
-use Rattle.std.proofs.Common.{ℕ, ◌-◌, arith}
+use Rattle.std.proofs.Common.{arith}
 use Rattle.std.proofs.Math.Seq.{take_at}
 use Rattle.std.proofs.lemmas.List.Edits.{length-remove}
 use Rattle.std.proofs.lemmas.Slice.{put_mid-rotated}

@@ -1,7 +1,7 @@
 -- `tailing::completions` meets its contract: the first i tails have their completions.
 use Rattle.std.proofs.Common.{rules, refl}
 use Rattle.std.proofs.Math.ListN.{length-set}
-use Rattle.olda.proofs.Adding.{ordered_asked, summed_none, summed_inside, summed_small, summed_more, summed_all}
+use Rattle.olda.proofs.Adding.{ordered_asked, summed_none, summed_small, summed_more, summed_all}
 use Rattle.olda.proofs.tailing.completions.Goals as goal
 
 pub executions_in_order-requires : goal.executions_in_order-requires

@@ -1,8 +1,8 @@
--- `reporting::least_slack` meets its contract: of the places looked at so far the one found has the least slack.
+-- `Accepted::tightest` meets its contract: of the places looked at so far the one found has the least slack.
 use Rattle.std.proofs.Common.{rules}
 use Rattle.olda.proofs.Chosen.{tight_one, tight_new, tight_old, tight_all}
-use Rattle.olda.proofs.reporting.least_slack.Goals as goal
-use Rattle.olda.proofs.reporting.least_slack.Goals.{then-tighter, else-tighter}
+use Rattle.olda.proofs.reporting.Accepted.tightest.Goals as goal
+use Rattle.olda.proofs.reporting.Accepted.tightest.Goals.{then-tighter, else-tighter}
 
 pub loop-i-init : goal.loop-i-init
 loop-i-init c =
