@@ -16,7 +16,7 @@ use Rattle.graph.specs.Graphs.{Graph, size, cost, Path, Cycle}
 use Rattle.graph.specs.Answers.{critical, judgement, answer, results, Finds}
 use Rattle.graph.specs.Faults.{Sound}
 use Rattle.graph.specs.Faults as faults
-use Rattle.graph.specs.Parts.{Attained, Settled, Settling, Small}
+use Rattle.graph.specs.Parts.{Attained, Settled, Small}
 use Rattle.graph.proofs.Paths.{path_most}
 use Rattle.graph.proofs.Raising.{settled_acyclic, settled_heaviest}
 use Rattle.graph.proofs.Listed.{path_short, critical_heaviest, heaviest_one}
@@ -26,15 +26,6 @@ module _ (g : Graph) where
   -- Where no path comes back, no path weighs more than 127 arcs of 1,100,000.
   pub light : {n : ℕ} → Sound g n → (Cycle g → ⊥) → (i : ℕ) (p : List ℕ) → i < size g → Path g i p → weight (cost g) p ≤ 139_700_000
   light s none i p b h = omega (arith, path_most g s i p h, path_short g s none i p b h, s.few.subjobs)
-
-  pub settling : (n : ℕ) (d : List ℕ) → judgement g n ≡ Passed → d ≡ replicate 128 0 → Settling g d
-  settling n d e z =
-      let s = sound g n e in
-      record {
-        sound = rw s.lengths.results at s;
-        room = rw z s.few.subjobs;
-        zeros = λ i. rw z (omega (arith, zeros_at 128 i));
-      }
 
   module _ (out : List ℕ) where
     pub given : {a : Judgement} → answer g (length out) ≡ a → (a ≡ Passed → results g out ≡ map (critical g) (places (size g)))

@@ -1,16 +1,23 @@
 -- The answer, both ways: a graph is accepted exactly if it is `Fit`, and it is refused for a reason exactly if it is `Faulty`
 -- for that reason.
 use Prim.Native.Nat.{ℕ, ◌+◌, ◌<◌, ◌≤◌}
-use mathlib.Core.Bool.{Bool, true, not, ◌&&◌, and-false}
+use mathlib.Core.Bool.{Bool, true, false, not, ◌&&◌}
 use mathlib.Core.List.{List}
 use mathlib.Core.Logic.{◌⊎◌, ◌↔◌, inl, inr}
 use mathlib.Core.Path.{◌≡◌, refl, sym, ◌∙◌}
 use native.Mathlib.Omega.{arith}
 use borrow.Author.Tests.{eqb-true, eq-eqb, leb-true, le-leb, ltb-true, lt-ltb, le-ltb, not-true, not-false}
-use lib.Dec.{leb, ltb}
-use lib.ListN.{length}
+use lib.Dec.{leb, ltb, leb-zero}
+use lib.ListN.{length, get_or}
+use Rattle.std.specs.Prelude.{Option, Some, None, position}
+use Rattle.std.specs.List.{position_or_len, zip}
+use Rattle.std.proofs.lemmas.Slice.Zip.{get_or-zip, length-zip}
+use Rattle.std.proofs.lemmas.Option.{none-some}
+use Rattle.std.proofs.lemmas.List.Quantifiers.{position-Some}
+use Rattle.std.proofs.lemmas.List.Sums.{fails_before_first}
 use Rattle.lists.proofs.Cases.{split, test, clash, both, tests}
 use Rattle.subjobs.specs.declared.Field.TheVariants as fields
+use Rattle.subjobs.specs.declared.Judgement.{Judgement}
 use Rattle.subjobs.specs.declared.Judgement.TheVariants.{Passed, Refused}
 use Rattle.subjobs.specs.declared.Reason.{Reason}
 use Rattle.subjobs.specs.declared.Reason.TheVariants.{Lengths, TooMany, Range, Stray, Cycle}
@@ -22,85 +29,53 @@ use Rattle.graph.specs.Graphs.{Graph, size, arcs, execution, before, after, hop}
 use Rattle.graph.specs.Graphs as graphs
 use Rattle.graph.specs.Answers.{one_length, few, execution_at, hop_at, arc_at, cyclic, judgement, answer}
 use Rattle.graph.specs.Faults.{OneLength, Few, InRange, HopInRange, Named, All, Sound, Fit, Faulty, lengths, many, range, delay, stray, cycle}
-use Rattle.graph.specs.Parts.{at, within, First}
 use Rattle.graph.proofs.Listed.{cyclic_so, cycle_seen}
 
--- The ranges by their last number.
-below_next : (m x : ℕ) → ltb x (m + 1) ≡ leb x m
-below_next m x = test (leb x m) (λ e. lt-ltb x (m + 1) (omega tests) ∙ sym e) (λ e. le-ltb x (m + 1) (omega tests) ∙ sym e)
+-- What a search for the first element that fails a test found, as a judgement.
+module _
+  {X : Type 0} (P : X → Bool) (xs : List X) (d : X) (Q : ℕ → Bool) (w : ℕ → Reason)
+  (same : (i : ℕ) → i < length xs → Q i ≡ P (get_or xs i d)) where
+  searched : Exactly (first_refusal (λ i. unless (Q i) (w i)) (length xs)) ((j : ℕ) → j < length xs → Q j ≡ true) (λ r. (p : ℕ) × (p < length xs) × ((j : ℕ) → j < p → Q j ≡ true) × ((r ≡ w p) × (Q p ≡ true → ⊥)))
+  searched = exactly_first _ _ _ (λ i. exactly_test (Q i) (w i) (λ e. e) (λ e. e)) (length xs)
 
--- Tests that say the same have the same first one outside,
-first_same : {P Q : ℕ → Bool} {n k : ℕ} → ((i : ℕ) → P i ≡ Q i) → First P n k → First Q n k
-first_same e F =
-    record { inside = F.inside; held = λ j h. sym (e j) ∙ F.held j h; fails = λ h. sym (e _) ∙ F.fails h }
+  pub position_refused : (k : ℕ) → Some k ≡ position (λ x. not (P x)) xs → first_refusal (λ i. unless (Q i) (w i)) (length xs) ≡ Refused (w k)
+  position_refused k e =
+      let f = position-Some (λ x. not (P x)) xs k d (sym e) in
+      searched.refuses (w k)
+      (k, f.0, (λ j h. same j (omega (arith, f.0)) ∙ not-false _ (f.2 j h)), (refl, λ t. clash (sym (same k f.0) ∙ t) (not-true _ f.1)))
 
--- which is what a search refuses for.
-module _ (P : ℕ → Bool) (w : ℕ → Reason) {n k : ℕ} (F : First P n k) where
-  searched : Exactly (first_refusal (λ i. unless (P i) (w i)) n) ((j : ℕ) → j < n → P j ≡ true) (λ r. (p : ℕ) × (p < n) × ((j : ℕ) → j < p → P j ≡ true) × ((r ≡ w p) × (P p ≡ true → ⊥)))
-  searched = exactly_first _ _ _ (λ i. exactly_test (P i) (w i) (λ e. e) (λ e. e)) n
+  pub position_passed : None ≡ position (λ x. not (P x)) xs → first_refusal (λ i. unless (Q i) (w i)) (length xs) ≡ Passed
+  position_passed e =
+      let n = position_or_len (λ x. not (P x)) xs in
+      test (ltb n (length xs))
+      (λ t. absurd (none-some n (rw t at e)))
+      (λ f.
+      let m : length xs ≤ n = omega tests in
+      searched.passes (λ j h. same j h ∙ not-false _ (fails_before_first (λ x. not (P x)) xs j d (omega arith))))
 
-  first_found : k < n → first_refusal (λ i. unless (P i) (w i)) n ≡ Refused (w k)
-  first_found h = searched.refuses (w k) (k, h, F.held, (refl, λ e. clash e (F.fails h)))
+-- No hop delay is below 0.
+pub hops_judged :
+    (g : Graph) {j : Judgement} → length g.hops ≡ arcs g
+    → j ≡ first_refusal (λ i. unless (leb 0 (hop g i) && leb (hop g i) 100_000) (Range i fields.Hop)) (length g.hops)
+    → j ≡ first_refusal (hop_at g) (arcs g)
+hops_judged g l e = rw l at (simp leb-zero at e)
 
-  first_none : n ≤ k → first_refusal (λ i. unless (P i) (w i)) n ≡ Passed
-  first_none h = searched.passes (λ j l. F.held j (omega arith))
+-- The same of the arcs' two lists.
+module _ (g : Graph) (l : length g.afters ≡ arcs g) where
+  abbrev Ends : ℕ × ℕ → Bool
+  Ends arc = ltb arc.0 (size g) && ltb arc.1 (size g)
 
--- The first arc that starts or leads outside is the earlier of the first of each.
-module _ (from to : List ℕ) (n : ℕ) {a b : ℕ} (l : length to ≡ length from)
-    (F : First (λ i. within 0 n (at from i)) (length from) b) (G : First (λ i. within 0 n (at to i)) (length to) a) where
-  inside : (x : ℕ) → within 0 n x ≡ ltb x n
-  inside x = rw (le-leb 0 x (omega arith))
+  long : length (zip g.befores g.afters) ≡ arcs g
+  long = omega (arith, length-zip g.befores g.afters)
 
-  starts : First (λ i. ltb (at from i) n) (length from) b
-  starts = first_same (λ i. inside (at from i)) F
+  same_ends : (i : ℕ) → i < length (zip g.befores g.afters) → (ltb (before g i) (size g) && ltb (after g i) (size g)) ≡ Ends (get_or (zip g.befores g.afters) i (0, 0))
+  same_ends i h = rw (get_or-zip g.befores g.afters i (0, 0) (omega (arith, long)) (omega (arith, long))) refl
 
-  leads : First (λ i. ltb (at to i) n) (length from) a
-  leads = rw l at (first_same (λ i. inside (at to i)) G)
+  pub stray_refused : (k : ℕ) → Some k ≡ position (λ arc. not (Ends arc)) (zip g.befores g.afters) → first_refusal (arc_at g) (arcs g) ≡ Refused (Stray k)
+  stray_refused k e = rw long at (position_refused Ends (zip g.befores g.afters) (0, 0) _ Stray same_ends k e)
 
-  pub stray_start : b < a → First (λ i. ltb (at from i) n && ltb (at to i) n) (length from) b
-  stray_start h =
-      record {
-        inside = starts.inside;
-        held = λ j k. rw (starts.held j k, leads.held j (omega arith));
-        fails = λ k. rw (starts.fails k);
-      }
-
-  pub stray_end : a ≤ b → First (λ i. ltb (at from i) n && ltb (at to i) n) (length from) a
-  stray_end h =
-      record {
-        inside = leads.inside;
-        held = λ j k. rw (starts.held j (omega arith), leads.held j k);
-        fails = λ k. rw (leads.fails k) (and-false (ltb (at from a) n));
-      }
-
--- What the searches of the program found, as judgements.
-module _ (g : Graph) {k : ℕ} where
-  module _ (F : First (λ i. within 1 1_000_001 (execution g i)) (size g) k) where
-    ranged : First (λ i. leb 1 (execution g i) && leb (execution g i) 1_000_000) (size g) k
-    ranged = first_same (λ i. rw (below_next 1_000_000 (execution g i))) F
-
-    pub execution_out : k < size g → first_refusal (execution_at g) (size g) ≡ Refused (Range k fields.Execution)
-    execution_out = first_found _ (λ i. Range i fields.Execution) ranged
-
-    pub executions_in : size g ≤ k → first_refusal (execution_at g) (size g) ≡ Passed
-    executions_in = first_none _ (λ i. Range i fields.Execution) ranged
-
-  module _ (l : length g.hops ≡ arcs g) (F : First (λ a. within 0 100_001 (hop g a)) (length g.hops) k) where
-    delayed : First (λ a. leb (hop g a) 100_000) (arcs g) k
-    delayed = rw l at (first_same {Q = λ a. leb (hop g a) 100_000} (λ a. rw (le-leb 0 (hop g a) (omega arith), below_next 100_000 (hop g a))) F)
-
-    pub hop_out : k < arcs g → first_refusal (hop_at g) (arcs g) ≡ Refused (Range k fields.Hop)
-    hop_out = first_found _ (λ a. Range a fields.Hop) delayed
-
-    pub hops_in : arcs g ≤ k → first_refusal (hop_at g) (arcs g) ≡ Passed
-    hops_in = first_none _ (λ a. Range a fields.Hop) delayed
-
-  module _ (F : First (λ a. ltb (before g a) (size g) && ltb (after g a) (size g)) (arcs g) k) where
-    pub arc_out : k < arcs g → first_refusal (arc_at g) (arcs g) ≡ Refused (Stray k)
-    arc_out = first_found _ Stray F
-
-    pub arcs_in : arcs g ≤ k → first_refusal (arc_at g) (arcs g) ≡ Passed
-    arcs_in = first_none _ Stray F
+  pub stray_passed : None ≡ position (λ arc. not (Ends arc)) (zip g.befores g.afters) → first_refusal (arc_at g) (arcs g) ≡ Passed
+  stray_passed e = rw long at (position_passed Ends (zip g.befores g.afters) (0, 0) _ Stray same_ends e)
 
 module _ (g : Graph) where
   -- one check of all numbers below another

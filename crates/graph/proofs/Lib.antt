@@ -1,7 +1,7 @@
 pub mod Cases
 pub mod Paths
+pub mod Growing
 pub mod Raising
-pub mod Lifting
 pub mod Listed
 pub mod Judged
 pub mod Finding

@@ -1,37 +1,24 @@
--- Rounds: one value raised to what an arc asks, a whole round, and what all of them show, which is the critical times or a
--- cycle.
+-- Rounds: a whole one, and what all of them show, which is the critical times or a cycle.
 use Prim.Native.Nat.{ℕ, ◌+◌, ◌*◌, ◌%◌, ◌<◌, ◌≤◌}
 use mathlib.Core.Bool.{Bool, true, false}
 use mathlib.Core.List.{List, [], ◌∷◌}
 use mathlib.Core.Path.{◌≡◌, refl, sym, ap, ◌∙◌}
 use native.Mathlib.Omega.{arith}
 use lib.Dec.{leb, eqb}
-use lib.ListN.{length, set, length-set}
-use lib.Seq.{get_or-set_same, get_or-set_other}
+use lib.ListN.{length}
+use lib.Seq.{get_or-set_same}
 use Rattle.lists.specs.Places.{weight}
-use Rattle.lists.proofs.Cases.{test, clash, tests, eqb_no}
+use Rattle.lists.proofs.Cases.{test, clash, tests}
 use Rattle.lists.proofs.Sums.{weight-nil, weight-cons}
-use Rattle.graph.specs.declared.rounds.Ask.{Ask}
 use Rattle.graph.specs.Graphs.{Graph, size, arcs, before, after, cost, Path, end, Cycle, Heaviest}
 use Rattle.graph.specs.Faults.{Sound}
-use Rattle.graph.specs.Parts.{at, ask, Attained, Settled, Rises, AtMost, most, arc_at, Asking, Asks, Rounding, Rounded, Settling, Guessed}
-use Rattle.graph.proofs.Paths.{Returns, long_returns, cost_most, path_least}
+use Rattle.graph.specs.Parts.{at, ask, Attained, Settled, Rises, AtMost, most, arc_at, Values, Grown, Raised, Rounded}
+use Rattle.graph.proofs.Paths.{Returns, long_returns, path_least}
+use Rattle.graph.proofs.Growing.{grown_none, grown_on, grown_values, raised_grown}
 
 -- A round looks at each arc: what stands where an arc does is looked at when the arc is counted.
 arc_twice : (t m a : ℕ) → a < m → (arc_at t m a < m) × (arc_at t m (arc_at t m a) ≡ a)
 arc_twice t m a h = test (eqb (t % 2) 0) (λ e. rw e (omega arith, omega arith)) (λ e. rw e (h, refl))
-
--- What stands at a place after one was set: the new value at its own place, the old one elsewhere.
-pub set_cases :
-    (d : List ℕ) (b v i : ℕ) (X : ℕ → Type 0)
-    → b < length d
-    → (i ≡ b → X v)
-    → X (at d i)
-    → X (at (set d b v) i)
-set_cases d b v i X h new old =
-    test (eqb i b)
-    (λ e. let q : i ≡ b = omega tests in rw (q, get_or-set_same d b v 0 h) (new q))
-    (λ e. rw (get_or-set_other d b i v 0 (eqb_no i b e)) old)
 
 module _ (g : Graph) where
   -- No path of at most k arcs weighs more than the value of its start.
@@ -63,135 +50,82 @@ module _ (g : Graph) where
   pub attained_zeros : (d : List ℕ) → AtMost 0 d → Attained g d
   attained_zeros d z i h = ([], tt, omega (arith, weight-nil (cost g), z i))
 
-  pub attained_set : (d : List ℕ) (a : ℕ) → a < arcs g → after g a < size g → before g a < length d → Attained g d → Attained g (set d (before g a) (ask g d a))
-  attained_set d a h n l A i b =
-      set_cases d (before g a) (ask g d a) i (λ (v : ℕ). (p : List ℕ) × Path g i p × (weight (cost g) p ≡ v)) l
-      (λ e. let w = A (after g a) n in (a ∷ w.0, (h, sym e, w.1), omega (arith, weight-cons (cost g) a w.0, w.2)))
-      (A i b)
-
-  -- What an arc can be asked with.
-  pub asking : {n : ℕ} (d : List ℕ) (a : ℕ) → Sound g n → size g ≤ length d → AtMost (300 * most) d → a < arcs g → Asking g d a
-  asking d a s room bounded h =
-      let e = s.named a h in
-      record {
-        arc = h;
-        afters = omega (arith, s.lengths.afters);
-        hops = omega (arith, s.lengths.hops);
-        starts = e.0;
-        leads = e.1;
-        room = omega (arith, e.1);
-        delay = s.hops a h;
-        serves = (s.executions (after g a) e.1).1;
-        value = bounded (after g a);
-      }
-
   -- What a round holds when it has looked at k arcs.
   pub record Going (d₀ d : List ℕ) (t k : ℕ) (rose : Bool) : Type 0 where
-    pub room : length d ≡ length d₀
-    pub attained : Attained g d
-    pub bounded : AtMost ((2 * t + 1) * most + k * 1_100_000) d
-    pub grown : (i : ℕ) → at d₀ i ≤ at d i
+    pub grown : Grown g (k * 1_100_000) d₀ d
     pub raised : (j : ℕ) → j < k → ask g d₀ (arc_at t (arcs g) j) ≤ at d (before g (arc_at t (arcs g) j))
     pub rises : rose ≡ true → Rises g d₀
     pub same : rose ≡ false → d ≡ d₀
 
-  pub going_start : {d : List ℕ} {t : ℕ} → Rounding g d t → Going d d t 0 false
-  going_start R =
+  pub going_start : (d : List ℕ) (t : ℕ) → Going d d t 0 false
+  going_start d t =
       record {
-        room = refl;
-        attained = R.attained;
-        bounded = λ i. omega (arith, R.bounded i);
-        grown = λ i. omega arith;
+        grown = grown_none g 0 d;
         raised = λ j l. absurd (omega arith);
         rises = λ e. clash e refl;
         same = λ e. refl;
       }
 
-  module _ {d₀ d : List ℕ} {t k : ℕ} {rose : Bool} (G : Going d₀ d t k rose) where
-    -- The value is as great as the arc asks.
-    pub going_kept :
-        k < arcs g → ask g d (arc_at t (arcs g) k) ≤ at d (before g (arc_at t (arcs g) k)) → Going d₀ d t (k + 1) rose
-    going_kept h le =
-        let a = arc_at t (arcs g) k in
+  module _ {n : ℕ} (s : Sound g n) {d₀ d : List ℕ} {t k : ℕ} {rose : Bool} (G : Going d₀ d t k rose) (h : k < arcs g) (room : size g ≤ length d) where
+    a : ℕ
+    a = arc_at t (arcs g) k
+
+    in_arcs : a < arcs g
+    unfolding a
+    in_arcs = (arc_twice t (arcs g) k h).0
+
+    module _ {d' : List ℕ} {up : Bool} (R : Raised g a d d' up) where
+      one : Grown g 1_100_000 d d'
+      one = raised_grown g s in_arcs room R
+
+      -- The start of the k-th arc has what the arc asked.
+      here : ask g d a ≤ at d' (before g a)
+      here =
+          test up
+          (λ u. let r = R.rises u in let b : before g a < length d = omega (arith, (s.named a in_arcs).0) in rw (r.1, get_or-set_same d (before g a) (ask g d a) 0 b) (omega arith))
+          (λ u. let r = R.stays u in rw r.1 r.0)
+
+      raised_next : (j : ℕ) → j < k + 1 → ask g d₀ (arc_at t (arcs g) j) ≤ at d' (before g (arc_at t (arcs g) j))
+      unfolding a
+      raised_next j l =
+          test (eqb j k)
+          (λ f. let q : j ≡ k = omega tests in rw q (omega (arith, here, G.grown.grown (after g a))))
+          (λ f. omega (arith, G.raised j (omega tests), one.grown (before g (arc_at t (arcs g) j))))
+
+    pub going_up : {d' : List ℕ} → Raised g (arc_at t (arcs g) k) d d' true → Going d₀ d' t (k + 1) true
+    unfolding a
+    going_up R =
         record {
-          room = G.room;
-          attained = G.attained;
-          bounded = λ i. omega (arith, G.bounded i);
-          grown = G.grown;
-          raised =
-              λ j l.
-              test (eqb j k)
-              (λ e. let q : j ≡ k = omega tests in rw q (omega (arith, G.grown (after g a))))
-              (λ e. G.raised j (omega tests));
+          grown = grown_on g _ (omega arith) G.grown (one R);
+          raised = raised_next R;
+          rises = λ f. test rose G.rises (λ u. (a, in_arcs, rw (G.same u) at (R.rises refl).0));
+          same = λ f. clash refl f;
+        }
+
+    pub going_stays : {d' : List ℕ} → Raised g (arc_at t (arcs g) k) d d' false → Going d₀ d' t (k + 1) rose
+    unfolding a
+    going_stays R =
+        record {
+          grown = grown_on g _ (omega arith) G.grown (one R);
+          raised = raised_next R;
           rises = G.rises;
-          same = G.same;
+          same = λ f. (R.stays refl).1 ∙ G.same f;
         }
 
-    -- It is raised to what the arc asks.
-    pub going_raised :
-        (n : ℕ) → Sound g n → size g ≤ length d → k < arcs g
-        → at d (before g (arc_at t (arcs g) k)) < ask g d (arc_at t (arcs g) k)
-        → Going d₀ (set d (before g (arc_at t (arcs g) k)) (ask g d (arc_at t (arcs g) k))) t (k + 1) true
-    going_raised n s room h lt =
-        let a = arc_at t (arcs g) k in
-        let in-arcs = (arc_twice t (arcs g) k h).0 in
-        let named = s.named a in-arcs in
-        let b : before g a < length d = omega (arith, named.0) in
-        let v = ask g d a in
-        let up : (i : ℕ) → at d i ≤ at (set d (before g a) v) i =
-        λ i. set_cases d (before g a) v i (λ (w : ℕ). at d i ≤ w) b (λ e. omega (arith, ap (at d) e)) (omega arith)
-        in
-        record {
-          room = simp length-set G.room;
-          attained = attained_set d a in-arcs named.1 b G.attained;
-          bounded =
-              λ i.
-              set_cases d (before g a) v i (λ (w : ℕ). w ≤ (2 * t + 1) * most + (k + 1) * 1_100_000) b
-              (λ e. omega (arith, cost_most g s a in-arcs, G.bounded (after g a)))
-              (omega (arith, G.bounded i));
-          grown = λ i. omega (arith, G.grown i, up i);
-          raised =
-              λ j l.
-              test (eqb j k)
-              (λ e.
-              let q : j ≡ k = omega tests in
-              rw (q, get_or-set_same d (before g a) v 0 b) (omega (arith, G.grown (after g a))))
-              (λ e. omega (arith, G.raised j (omega tests), up (before g (arc_at t (arcs g) j))));
-          rises = λ e. test rose G.rises (λ f. (a, in-arcs, rw (G.same f) at lt));
-          same = λ e. clash refl e;
-        }
-
-    -- The same of what `asked` tells of the k-th arc.
-    module _ {a : ℕ} (r : Ask) (h : k < arcs g) (e : a ≡ arc_at t (arcs g) k) (A : Asks g d a r) where
-      start : r.before ≡ before g (arc_at t (arcs g) k)
-      start = A.start ∙ ap (before g) e
-
-      value : r.value ≡ ask g d (arc_at t (arcs g) k)
-      value = A.value ∙ ap (ask g d) e
-
-      pub going_stays : r.value ≤ at d r.before → Going d₀ d t (k + 1) rose
-      going_stays le = going_kept h (rw (start, value) at le)
-
-      pub going_up :
-          {n : ℕ} → Sound g n → size g ≤ length d → at d r.before < r.value → Going d₀ (set d r.before r.value) t (k + 1) true
-      going_up {n} s room lt = rw (start, value) (going_raised n s room h (rw (start, value) at lt))
-
-    -- All arcs are looked at.
-    pub going_done : arcs g ≤ 1_024 → k ≡ arcs g → Rounded g d₀ d t rose
-    going_done few e =
-        let all : (a : ℕ) → a < arcs g → ask g d₀ a ≤ at d (before g a) =
-        λ a h.
-        let w = arc_twice t (arcs g) a h in
-        rw w.1 at (G.raised (arc_at t (arcs g) a) (omega (arith, w.0)))
-        in
-        record {
-          room = G.room;
-          attained = G.attained;
-          bounded = λ i. omega (arith, G.bounded i);
-          raised = all;
-          rises = G.rises;
-          settled = λ f a h. let q = G.same f in rw q (rw q at (all a h));
-        }
+  -- All arcs are looked at.
+  pub going_done : {d₀ d : List ℕ} {t : ℕ} {rose : Bool} → arcs g ≤ 1_024 → Going d₀ d t (arcs g) rose → Rounded g d₀ d rose
+  going_done {d₀} {d} {t} few G =
+      let all : (a : ℕ) → a < arcs g → ask g d₀ a ≤ at d (before g a) =
+      λ a h.
+      let w = arc_twice t (arcs g) a h in
+      rw w.1 at (G.raised (arc_at t (arcs g) a) (omega (arith, w.0)))
+      in
+      record {
+        grown = grown_on g most (omega arith) G.grown (grown_none g 0 d);
+        raised = all;
+        rises = G.rises;
+        settled = λ f a h. let q = G.same f in rw q (rw q at (all a h));
+      }
 
   -- If no arc asks for more, values fall along a path by at least what it weighs.
   falls : (d : List ℕ) → Settled g d → (i : ℕ) (p : List ℕ) → Path g i p → weight (cost g) p + at d (end g i p) ≤ at d i
@@ -230,51 +164,26 @@ module _ (g : Graph) where
 
   -- What holds after t rounds that all raised something.
   pub record Turning (d : List ℕ) (t : ℕ) : Type 0 where
-    pub room : size g ≤ length d
-    pub attained : Attained g d
-    pub bounded : AtMost ((2 * t + 1) * most) d
+    pub values : Values g (2 * t) d
     pub bounds : Bounds t d
-    pub turn : t ≤ size g + 1
     pub cycle : size g < t → Cycle g
 
-  pub turning_start : {d : List ℕ} → Settling g d → Turning d 0
-  turning_start {d} S =
+  pub turning_start : (d : List ℕ) → size g ≤ length d → AtMost 0 d → Turning d 0
+  turning_start d room z =
       record {
-        room = S.room;
-        attained = attained_zeros d S.zeros;
-        bounded = λ i. omega (arith, S.zeros i);
+        values = record { room = room; attained = attained_zeros d z; bounded = z };
         bounds = bounds_none d;
-        turn = omega arith;
         cycle = λ h. absurd (omega arith);
       }
 
-  module _ {t : ℕ} {d : List ℕ} (s : Sound g (size g)) (T : Turning d t) (few : t ≤ size g) where
-    pub turning_round : Rounding g d t
-    turning_round =
-        record {
-          sound = s;
-          room = T.room;
-          attained = T.attained;
-          bounded = T.bounded;
-          turn = omega (arith, s.few.subjobs);
-        }
-
-    -- The next round starts from what this one left, or from what was guessed on it.
-    pub turning_on : {d' d'' : List ℕ} → Rounded g d d' t true → Guessed g d' d'' → Turning d'' (t + 1)
-    turning_on {d'} {d''} R G =
-        record {
-          room = omega (arith, T.room, R.room, G.room);
-          attained = G.attained;
-          bounded = λ i. omega (arith, G.more ((2 * t + 2) * most) R.bounded i);
-          bounds = bounds_more t d d'' T.bounds (λ a h. omega (arith, R.raised a h, G.grown (before g a)));
-          turn = omega arith;
-          cycle =
-              λ h.
-              let w = rises_returns d s T.attained T.bounds (omega arith) (R.rises refl) in
-              (w.0, w.1, w.2, w.3, w.4);
-        }
-
-  -- Where nothing is guessed.
-  pub guessed_none : (d : List ℕ) → Attained g d → Guessed g d d
-  guessed_none d A =
-      record { room = refl; attained = A; grown = λ i. omega arith; more = λ b m i. omega (arith, m i) }
+  -- The next round starts from what this one left, or from what was guessed on it.
+  pub turning_on : {n t : ℕ} {d d' d'' : List ℕ} → Sound g n → Turning d t → t ≤ size g → Rounded g d d' true → Grown g most d' d'' → Turning d'' (t + 1)
+  turning_on {t = t} {d} {d'} {d''} s T few R G =
+      record {
+        values = grown_values g (2 * (t + 1)) (omega arith) (omega arith) (grown_values g (2 * t + 1) (omega arith) (omega arith) T.values R.grown) G;
+        bounds = bounds_more t d d'' T.bounds (λ a h. omega (arith, R.raised a h, G.grown (before g a)));
+        cycle =
+            λ h.
+            let w = rises_returns d s T.values.attained T.bounds (omega arith) (R.rises refl) in
+            (w.0, w.1, w.2, w.3, w.4);
+      }

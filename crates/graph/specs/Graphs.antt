@@ -1,6 +1,7 @@
 -- A job's graph: the executions of its sub-jobs, one place each, and arcs "this before that" by place, each with a hop delay;
 -- and its paths.
 --
+--   graph_of g         == the graph of four lent lists
 --   size g, arcs g     == how many sub-jobs and how many arcs it has
 --   execution g i      == the execution of the sub-job at place i
 --   before g a, after g a, hop g a == where the arc with index a starts, where it leads, and its hop delay
@@ -11,6 +12,7 @@
 --   Heaviest g i w     == some path from place i weighs w, and none weighs more
 use Rattle.std.specs.Prelude.{ℕ, ◌+◌, ◌<◌, ◌≤◌, List, [], ◌∷◌, ◌≢◌, ◌≡◌, length, get_or}
 use Rattle.lists.specs.Places.{weight}
+use Rattle.graph.specs.declared.lent.Graph as lent
 
 -- Execution times in one lent list, arcs in three: before, after, hop delay.
 pub record Graph : Type 0 where
@@ -21,6 +23,10 @@ pub record Graph : Type 0 where
 
 abbrev pub graph : List ℕ → List ℕ → List ℕ → List ℕ → Graph
 graph cs from to hs = record { executions = cs; befores = from; afters = to; hops = hs }
+
+-- One that is lent.
+abbrev pub graph_of : lent.Graph → Graph
+graph_of g = graph g.executions.now g.befores.now g.afters.now g.hops.now
 
 abbrev pub size : Graph → ℕ
 size g = length g.executions

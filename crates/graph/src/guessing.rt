@@ -1,154 +1,144 @@
 // A guess that only speed hangs on. Rounds are many where the arcs are listed so that paths are found out of order. So the
 // arcs are taken once from the ends of the paths on: those that lead to a place after all that leave it. Nothing is
 // promised of that order. What an arc asks may be taken in any, and rounds go on from there.
-ghost use Rattle.std.specs.Prelude.{◌≤◌, ◌<◌, ◌≡◌, length};
-ghost use Rattle.graph.specs.Graphs.{graph};
-ghost use Rattle.graph.specs.Parts.{AtMost, Linking, Linked, Waiting, Lifting, Lifted, Peeling, Guessing, Guessed};
+ghost use Rattle.std.specs.Prelude.{ℕ, ◌≤◌, ◌<◌, ◌≡◌, length, IfSome};
+ghost use Rattle.graph.specs.Graphs.{graph_of, arcs};
+ghost use Rattle.graph.specs.Parts.{at, AtMost, turned, most, Values, Grown};
 
-use crate::rounds::{asked, index};
+use crate::lent::{Graph, SoundGraph};
+use crate::rounds::raise;
 
-// For each place the arcs that lead to it, linked: `first` has the index of one plus 1, `next` that of the one behind it, 0
-// where there is none. `left` counts the arcs that leave a place.
-fn link(befores: &[u32], afters: &[u32], left: &mut [u32], first: &mut [u32], next: &mut [u32])
-    requires { Linking befores.now afters.now left.old first.old next.old }
-    ensures { Linked (length befores.now) left.old first.old next.old
-        left.new first.new next.new }
-{
-    let mut a = 0;
-    while a < befores.len() {
-        let before = index(befores[a]);
-        let after = index(afters[a]);
-        left[before] += 1;
-        next[a] = first[after];
-        a += 1;
-        first[after] = a as u32;
-    }
+// The places that wait, in the order in which they came. Those before `head` are taken.
+// Kept so: the library's rules want fixed memory and no heap, so the queue is an array and two indices.
+#[derive(Drop)]
+struct Queue {
+    places: [u32; 128],
+    head: usize,
+    tail: usize,
+    ghost inside: { (head ≤ 128) × (tail ≤ 128) },
+    ghost below: { AtMost 127 places },
 }
 
-// The places that nothing follows, in front of the queue; how many there are.
-fn ends(left: &[u32], n: usize, queue: &mut [u32]) -> usize
-    requires { (n ≤ 128) × (n ≤ length left.now) × (n ≤ length queue.old) × AtMost 127 queue.old }
-    ensures { Waiting queue.old queue.new result }
-{
-    let mut tail = 0;
-    let mut i = 0;
-    while i < n {
-        let place = i;
-        i += 1;
-        if left[place] == 0 {
-            queue[tail] = place as u32;
-            tail += 1;
+impl Queue {
+    // Puts a place behind the others, if there is room.
+    fn push(&mut self, place: usize)
+        requires { place < 128 }
+        ensures { self.new.head ≡ self.old.head }
+    {
+        if self.tail < 128 {
+            self.places[self.tail] = place as u32;
+            self.tail += 1;
         }
     }
-    tail
-}
 
-// Raises the start of an arc to what the arc asks; the place it starts from.
-fn raise(
-    executions: &[u32],
-    befores: &[u32],
-    afters: &[u32],
-    hops: &[u32],
-    found: &mut [u64],
-    arc: usize,
-) -> usize
-    requires { Lifting (graph executions.now befores.now afters.now hops.now) found.old arc }
-    ensures { Lifted (graph executions.now befores.now afters.now hops.now)
-        found.old found.new result }
-{
-    let wish = asked(executions, befores, afters, hops, found, arc);
-    let before = wish.before;
-    if wish.value <= found[before] {
-        return before;
+    // Takes the place in front.
+    fn pop(&mut self) -> Option<usize>
+        ensures { IfSome result (λ place. (place < 128) × (self.old.head < self.new.head)) }
+    {
+        if self.tail <= self.head {
+            return None;
+        }
+        let place = self.places[self.head] as usize;
+        self.head += 1;
+        Some(place)
     }
-    found[before] = wish.value;
-    before
 }
 
-// Counts one arc less of those that leave a place; whether it was the last.
+// A graph with the arcs that lead to a place linked: `first` has the index of one plus 1, `next` that of the one behind it,
+// which stands before it in the graph; 0 where there is none.
+// Kept so: the library's rules want fixed memory and no heap, so links are indices in an array.
+#[derive(Drop)]
+struct Links<'a> {
+    first: [u32; 128],
+    sound: SoundGraph<'a>,
+    next: [u32; 1_024],
+    ghost heads: { AtMost (arcs (graph_of sound.graph)) first },
+    ghost falls: { (a : ℕ) → at next a ≤ a },
+}
+
+impl<'a> Links<'a> {
+    // Links all arcs, and counts in `left` those that leave a place.
+    fn link(&mut self, left: &mut [u32])
+        requires { (128 ≤ length left.old) × AtMost 0 left.old × AtMost 0 self.old.first }
+        ensures { self.new.sound.graph ≡ self.old.sound.graph }
+    {
+        let graph = self.sound.graph;
+        for arc in 0..graph.befores.len() {
+            let before = graph.befores[arc] as usize;
+            let after = graph.afters[arc] as usize;
+            left[before] += 1;
+            self.next[arc] = self.first[after];
+            self.first[after] = arc as u32 + 1;
+        }
+    }
+
+    // Takes the arcs that lead to a place. One that they leave waits when the last arc that leaves it is taken.
+    fn take(&self, place: usize, found: &mut [u64], left: &mut [u32], queue: &mut Queue)
+        requires { (place < 128) × (128 ≤ length left.old) × Values (graph_of self.now.sound.graph) 299 found.old }
+        ensures grown { Grown (graph_of self.now.sound.graph) turned found.old found.new }
+        ensures head { queue.new.head ≡ queue.old.head }
+    {
+        let graph = self.sound.graph;
+        let mut link = self.first[place] as usize;
+        while 0 < link {
+            let arc = link - 1;
+            raise(&self.sound, found, arc);
+            let before = graph.befores[arc] as usize;
+            if last(left, before) {
+                queue.push(before);
+            }
+            link = self.next[arc] as usize;
+        }
+    }
+}
+
+// Counts one arc less of those that leave a place; whether it was the last. Each arc is taken once, so there is one to take
+// off; that is not proved, and nothing hangs on it.
 fn last(left: &mut [u32], place: usize) -> bool
     requires { place < length left.old }
-    ensures { length left.new ≡ length left.old }
 {
-    let still = left[place];
-    if still == 0 {
-        return false;
-    }
-    left[place] = still - 1;
-    still == 1
+    left[place] = left[place].wrapping_sub(1);
+    left[place] == 0
 }
 
-// Puts a place into the queue, if there is room; how many wait in it.
-fn wait(queue: &mut [u32], tail: usize, place: usize) -> usize
-    requires { (place < 128) × (tail ≤ length queue.old) × AtMost 127 queue.old }
-    ensures { Waiting queue.old queue.new result }
+// The places that nothing follows wait first.
+fn ends(left: &[u32], n: usize, queue: &mut Queue)
+    requires { (n ≤ 128) × (n ≤ length left.now) }
 {
-    if queue.len() <= tail {
-        return tail;
-    }
-    queue[tail] = place as u32;
-    tail + 1
-}
-
-// Takes the arcs that lead to each waiting place. Each step is an arc or a place, so there are no more of them.
-fn peel(
-    executions: &[u32],
-    befores: &[u32],
-    afters: &[u32],
-    hops: &[u32],
-    found: &mut [u64],
-    left: &mut [u32],
-    first: &[u32],
-    next: &[u32],
-    queue: &mut [u32],
-)
-    requires { Peeling (graph executions.now befores.now afters.now hops.now) found.old left.old first.now next.now
-        queue.old }
-    ensures { Guessed (graph executions.now befores.now afters.now hops.now)
-        found.old found.new }
-{
-    let mut tail = ends(left, executions.len(), queue);
-    let mut head = 0;
-    let mut link = 0;
-    let mut steps = executions.len() + befores.len();
-    while 0 < steps {
-        steps -= 1;
-        if 0 < link {
-            let arc = link - 1;
-            link = index(next[arc]);
-            let before = raise(executions, befores, afters, hops, found, arc);
-            let ready = last(left, before);
-            if ready {
-                tail = wait(queue, tail, before);
-            }
-        } else {
-            if tail <= head {
-                return;
-            }
-            link = index(first[index(queue[head])]);
-            head += 1;
+    for place in 0..n {
+        if left[place] == 0 {
+            queue.push(place);
         }
+    }
+}
+
+// Takes the arcs of all places, in the order in which these come to wait.
+fn peel(links: &Links, found: &mut [u64], left: &mut [u32], queue: &mut Queue)
+    requires { (128 ≤ length left.old) × Values (graph_of links.now.sound.graph) 298 found.old }
+    ensures { Grown (graph_of links.now.sound.graph) most found.old found.new }
+{
+    while let Some(place) = queue.pop() {
+        links.take(place, found, left, queue);
     }
 }
 
 // The guess, in rooms of its own.
-pub(crate) fn guess(
-    executions: &[u32],
-    befores: &[u32],
-    afters: &[u32],
-    hops: &[u32],
-    found: &mut [u64],
-)
-    requires { Guessing (graph executions.now befores.now afters.now hops.now) found.old }
-    ensures { Guessed (graph executions.now befores.now afters.now hops.now)
-        found.old found.new }
+pub(crate) fn guess(sound: &SoundGraph, found: &mut [u64])
+    requires { Values (graph_of sound.now.graph) 298 found.old }
+    ensures { Grown (graph_of sound.now.graph) most found.old found.new }
 {
     let mut left = [0u32; 128];
-    let mut first = [0u32; 128];
-    let mut next = [0u32; 1_024];
-    let mut queue = [0u32; 128];
-    link(befores, afters, &mut left, &mut first, &mut next);
-    peel(
-        executions, befores, afters, hops, found, &mut left, &first, &next, &mut queue,
-    );
+    let mut links = Links {
+        first: [0; 128],
+        sound: *sound,
+        next: [0; 1_024],
+    };
+    links.link(&mut left);
+    let mut queue = Queue {
+        places: [0; 128],
+        head: 0,
+        tail: 0,
+    };
+    ends(&left, sound.graph.executions.len(), &mut queue);
+    peel(&links, found, &mut left, &mut queue);
 }

@@ -1,73 +1,70 @@
 // Refusals 1, 2, 3 and 20 of a graph.
-ghost use Rattle.std.specs.Prelude.{◌≤◌, ◌≡◌, ◌&&◌, ltb, length};
-ghost use Rattle.graph.specs.Graphs.{graph};
-ghost use Rattle.graph.specs.Answers.{judgement};
-ghost use Rattle.graph.specs.Parts.{at, within, First};
+ghost use Rattle.std.specs.Prelude.{◌≤◌, ◌≡◌, ◌&&◌, leb, ltb, not, length, position, IfOk};
+ghost use Rattle.std.specs.List.{zip};
+ghost use Rattle.subjobs.specs.Judging.{unless, first_refusal};
+ghost use Rattle.subjobs.specs.declared.Reason.TheVariants.{Range, Stray};
+ghost use Rattle.graph.specs.Graphs.{graph_of, size, arcs};
+ghost use Rattle.graph.specs.Answers.{arc_at, judgement};
+ghost use Rattle.graph.specs.Parts.{at, judged};
 
-use subjobs::{Field, Judgement, Reason};
+use crate::lent::{Graph, SoundGraph};
+use subjobs::{Field, Reason};
 
-// Where the first number stands that is below `low` or not below `end`; the length if there is none.
-fn first_outside(numbers: &[u32], low: u32, end: u32) -> usize
-    ensures { First (λ i. within low end (at numbers.now i)) (length numbers.now) result }
+// The place of the first number that is not one of `low` to `high`.
+fn first_outside(numbers: &[u32], low: u32, high: u32) -> Option<usize>
+    ensures { result ≡ position (λ x. not (leb low x && leb x high)) numbers.now }
 {
-    let mut i = 0;
-    while i < numbers.len() {
-        if !((low <= numbers[i]) & (numbers[i] < end)) {
-            return i;
-        }
-        i += 1;
-    }
-    i
+    numbers.iter().position(|x| !(low..=high).contains(x))
 }
 
-// The first arc that does not start or does not lead to one of n sub-jobs; the number of arcs if there is none.
-fn first_stray(befores: &[u32], afters: &[u32], n: usize) -> usize
-    requires { (n ≤ 128) × (length afters.now ≡ length befores.now) }
-    ensures { First (λ a. ltb (at befores.now a) n && ltb (at afters.now a) n)
-        (length befores.now) result }
+// 3: a number that is not one of `low` to `high`.
+fn in_range(numbers: &[u32], low: u32, high: u32, field: Field) -> Result<(), Reason>
+    ensures { judged result ≡ first_refusal
+        (λ i. unless (leb low (at numbers.now i) && leb (at numbers.now i) high) (Range i field))
+        (length numbers.now) }
 {
-    let b = first_outside(befores, 0, n as u32);
-    let a = first_outside(afters, 0, n as u32);
-    if b < a { b } else { a }
+    match first_outside(numbers, low, high) {
+        Some(place) => Err(Reason::Range { place, field }),
+        None => Ok(()),
+    }
+}
+
+// The first arc that does not start from or does not lead to one of n sub-jobs.
+fn first_stray(befores: &[u32], afters: &[u32], n: usize) -> Option<usize>
+    ensures { result ≡ position (λ arc. not (ltb arc.0 n && ltb arc.1 n)) (zip befores.now afters.now) }
+{
+    befores
+        .iter()
+        .zip(afters)
+        .position(|(before, after)| !((*before as usize) < n && (*after as usize) < n))
+}
+
+// 20: an arc that names no sub-job.
+fn named(graph: &Graph) -> Result<(), Reason>
+    requires { length graph.now.afters.now ≡ length graph.now.befores.now }
+    ensures { judged result ≡ first_refusal (arc_at (graph_of graph.now)) (arcs (graph_of graph.now)) }
+{
+    match first_stray(graph.befores, graph.afters, graph.executions.len()) {
+        Some(arc) => Err(Reason::Stray { arc }),
+        None => Ok(()),
+    }
 }
 
 // The refusals in their order; `results` is the length of the result list.
-pub(crate) fn judge(
-    executions: &[u32],
-    befores: &[u32],
-    afters: &[u32],
-    hops: &[u32],
-    results: usize,
-) -> Judgement
-    ensures { result ≡ judgement
-        (graph executions.now befores.now afters.now hops.now)
-        results }
+pub(crate) fn judge<'a>(graph: Graph<'a>, results: usize) -> Result<SoundGraph<'a>, Reason>
+    ensures answer { judged result ≡ judgement (graph_of graph.entry) results }
+    ensures same { IfOk result (λ s. s.graph ≡ graph.entry) }
 {
-    let n = executions.len();
-    let m = befores.len();
-    if !((results == n) & (afters.len() == m) & (hops.len() == m)) {
-        return Judgement::Refused(Reason::Lengths);
+    let n = graph.executions.len();
+    let m = graph.befores.len();
+    if !((results == n) & (graph.afters.len() == m) & (graph.hops.len() == m)) {
+        return Err(Reason::Lengths);
     }
     if !((n <= 128) & (m <= 1_024)) {
-        return Judgement::Refused(Reason::TooMany);
+        return Err(Reason::TooMany);
     }
-    let place = first_outside(executions, 1, 1_000_001);
-    if place < n {
-        return Judgement::Refused(Reason::Range {
-            place,
-            field: Field::Execution,
-        });
-    }
-    let hop = first_outside(hops, 0, 100_001);
-    if hop < m {
-        return Judgement::Refused(Reason::Range {
-            place: hop,
-            field: Field::Hop,
-        });
-    }
-    let arc = first_stray(befores, afters, n);
-    if arc < m {
-        return Judgement::Refused(Reason::Stray { arc });
-    }
-    Judgement::Passed
+    in_range(graph.executions, 1, 1_000_000, Field::Execution)?;
+    in_range(graph.hops, 0, 100_000, Field::Hop)?;
+    named(&graph)?;
+    Ok(SoundGraph { graph })
 }

@@ -2,14 +2,29 @@
 // successors.
 #![tactic(auto)]
 
-ghost use Rattle.graph.specs.Graphs.{graph};
+ghost use Rattle.graph.specs.Graphs.{graph, graph_of};
 ghost use Rattle.graph.specs.Answers.{Finds};
+ghost use Rattle.graph.specs.Parts.{judged};
 
 use subjobs::{Judgement, Reason};
 
+pub use lent::Graph;
+
 mod guessing;
 mod judging;
+mod lent;
 mod rounds;
+
+// The critical times, written, or why there are none, with the results left as they were.
+fn find(graph: Graph, results: &mut [u32]) -> Result<(), Reason>
+    ensures { Finds (graph_of graph.entry) results.old (judged result) results.new }
+{
+    let sound = judging::judge(graph, results.len())?;
+    let mut found = [0u64; 128];
+    rounds::settle(&sound, &mut found)?;
+    rounds::write(&found, results);
+    Ok(())
+}
 
 // Passed, with each sub-job's critical time written, or a refusal, with the results left as they were. Arcs are given by
 // index in three lists: the place they start from, the place they lead to, their hop delay.
@@ -24,17 +39,14 @@ pub fn critical(
         (graph executions.now befores.now afters.now hops.now)
         results.old result results.new }
 {
-    let judged = judging::judge(executions, befores, afters, hops, results.len());
-    match judged {
-        Judgement::Refused(reason) => Judgement::Refused(reason),
-        Judgement::Passed => {
-            let mut found = [0u64; 128];
-            let settled = rounds::settle(executions, befores, afters, hops, &mut found);
-            if !settled {
-                return Judgement::Refused(Reason::Cycle);
-            }
-            rounds::write(&found, results);
-            Judgement::Passed
-        }
+    let graph = Graph {
+        executions,
+        befores,
+        afters,
+        hops,
+    };
+    match find(graph, results) {
+        Ok(()) => Judgement::Passed,
+        Err(reason) => Judgement::Refused(reason),
     }
 }

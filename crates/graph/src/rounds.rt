@@ -1,30 +1,28 @@
 // Rounds over the arcs until nothing changes. Each place has a value, 0 at first, which is always the weight of some path
 // from it; a round raises each arc's start to what the arc asks.
-ghost use Rattle.std.specs.Prelude.{◌<◌, ◌≡◌, length, take};
-ghost use Rattle.graph.specs.Graphs.{graph};
-ghost use Rattle.graph.specs.Parts.{arc_at, Asking, Asks, Rounding, Rounded, Settling, Settles, Small};
+ghost use Rattle.std.specs.Prelude.{◌<◌, ◌≤◌, ◌≡◌, length, take};
+ghost use Rattle.graph.specs.Graphs.{graph_of, arcs};
+ghost use Rattle.graph.specs.Parts.{arc_at, AtMost, Values, Raised, Rounded, Settles, Small};
 
 use crate::guessing::guess;
+use crate::lent::SoundGraph;
+use subjobs::Reason;
 
-// What an arc asks of the place it starts from.
-#[derive(Drop)]
-pub(crate) struct Ask {
-    pub(crate) before: usize,
-    pub(crate) value: u64,
-}
-
-// A number of 32 bits in 64.
-fn wide(x: u32) -> u64
-    ensures { result ≡ x }
+// Raises the start of an arc to what the arc asks, which is its cost and the value of the place that it leads to. Whether
+// it rose.
+pub(crate) fn raise(sound: &SoundGraph, found: &mut [u64], arc: usize) -> bool
+    requires { (arc < arcs (graph_of sound.now.graph)) × Values (graph_of sound.now.graph) 300 found.old }
+    ensures { Raised (graph_of sound.now.graph) arc found.old found.new result }
 {
-    x as u64
-}
-
-// A place as an index.
-pub(crate) fn index(place: u32) -> usize
-    ensures { result ≡ place }
-{
-    place as usize
+    let graph = sound.graph;
+    let before = graph.befores[arc] as usize;
+    let after = graph.afters[arc] as usize;
+    let asked = u64::from(graph.hops[arc]) + u64::from(graph.executions[after]) + found[after];
+    if asked <= found[before] {
+        return false;
+    }
+    found[before] = asked;
+    true
 }
 
 // The k-th of m arcs that round `turn` looks at. Even rounds go backwards: one is enough where arcs are listed as paths
@@ -39,79 +37,38 @@ fn arc_at(turn: usize, m: usize, k: usize) -> usize
     k
 }
 
-// What an arc asks: its cost, and what stands at the place that it leads to.
-pub(crate) fn asked(
-    executions: &[u32],
-    befores: &[u32],
-    afters: &[u32],
-    hops: &[u32],
-    found: &[u64],
-    arc: usize,
-) -> Ask
-    requires { Asking (graph executions.now befores.now afters.now hops.now) found.now arc }
-    ensures { Asks (graph executions.now befores.now afters.now hops.now)
-        found.now arc result }
-{
-    let after = index(afters[arc]);
-    Ask {
-        before: index(befores[arc]),
-        value: wide(hops[arc]) + wide(executions[after]) + found[after],
-    }
-}
-
 // One round: whether any value rose.
-fn round(
-    executions: &[u32],
-    befores: &[u32],
-    afters: &[u32],
-    hops: &[u32],
-    found: &mut [u64],
-    turn: usize,
-) -> bool
-    requires { Rounding (graph executions.now befores.now afters.now hops.now) found.old turn }
-    ensures { Rounded (graph executions.now befores.now afters.now hops.now)
-        found.old found.new turn result }
+fn round(sound: &SoundGraph, found: &mut [u64], turn: usize) -> bool
+    requires { Values (graph_of sound.now.graph) 299 found.old }
+    ensures { Rounded (graph_of sound.now.graph) found.old found.new result }
 {
-    let m = befores.len();
+    let m = sound.graph.befores.len();
     let mut rose = false;
-    let mut k = 0;
-    while k < m {
-        let wish = asked(executions, befores, afters, hops, found, arc_at(turn, m, k));
-        let before = wish.before;
-        k += 1;
-        if found[before] < wish.value {
-            found[before] = wish.value;
+    for k in 0..m {
+        if raise(sound, found, arc_at(turn, m, k)) {
             rose = true;
         }
     }
     rose
 }
 
-// Rounds until nothing rises. One more than there are places shows a cycle if they all raise something. Three are enough
-// where the arcs are listed as paths run, either way; otherwise many of them are saved by a guess, unless they are few.
-pub(crate) fn settle(
-    executions: &[u32],
-    befores: &[u32],
-    afters: &[u32],
-    hops: &[u32],
-    found: &mut [u64],
-) -> bool
-    requires { Settling (graph executions.now befores.now afters.now hops.now) found.old }
-    ensures { Settles (graph executions.now befores.now afters.now hops.now)
-        found.new result }
+// Rounds until nothing rises. One more than there are places shows a cycle, refusal 21, if they all raise something. Three
+// are enough where the arcs are listed as paths run, either way; otherwise many of them are saved by a guess, unless they
+// are few.
+pub(crate) fn settle(sound: &SoundGraph, found: &mut [u64]) -> Result<(), Reason>
+    requires { (128 ≤ length found.old) × AtMost 0 found.old }
+    ensures { Settles (graph_of sound.now.graph) found.new result }
 {
-    let mut turn = 0;
-    while turn <= executions.len() {
-        let rose = round(executions, befores, afters, hops, found, turn);
-        if !rose {
-            return true;
+    let n = sound.graph.executions.len();
+    for turn in 0..=n {
+        if !round(sound, found, turn) {
+            return Ok(());
         }
-        turn += 1;
-        if (turn == 3) & (8 < executions.len()) {
-            guess(executions, befores, afters, hops, found);
+        if (turn == 2) & (8 < n) {
+            guess(sound, found);
         }
     }
-    false
+    Err(Reason::Cycle)
 }
 
 // The values, in 32 bits.
@@ -119,9 +76,7 @@ pub(crate) fn write(found: &[u64], out: &mut [u32])
     requires { Small found.now (length out.old) }
     ensures { out.new ≡ take (length out.old) found.now }
 {
-    let mut i = 0;
-    while i < out.len() {
-        out[i] = found[i] as u32;
-        i += 1;
+    for (place, time) in out.iter_mut().enumerate() {
+        *time = found[place] as u32;
     }
 }

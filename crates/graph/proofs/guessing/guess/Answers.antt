@@ -1,27 +1,13 @@
 -- `guessing::guess` meets its contract: it makes the rooms, all zeros.
-use borrow.Author.Rules.{rules}
-use mathlib.Core.Path.{refl}
-use native.Mathlib.Omega.{arith}
-use Rattle.graph.specs.Graphs.{graph}
-use Rattle.graph.proofs.Lifting.{linking, at_most_zeros}
+use Rattle.std.proofs.Common.{arith}
+use Rattle.graph.proofs.Growing.{at_most_zeros}
 use Rattle.graph.proofs.guessing.guess.Goals as goal
 
-pub link-requires : goal.link-requires
-link-requires c =
-    let a = c.args in
-    linking (graph a.executions.now a.befores.now a.afters.now a.hops.now) c.requires.sound _ _ _ refl refl refl
+pub invariant_of-links : goal.invariant_of-links
+invariant_of-links c = record { heads = at_most_zeros 128 _; falls = λ a. at_most_zeros 1_024 a a }
 
-pub peel-requires : goal.peel-requires
-peel-requires c =
-    let p = c.requires in
-    let l = c.link.ensures in
-    record {
-      guessing = p;
-      lefts = omega (arith, l.lefts);
-      firsts = omega (arith, l.firsts);
-      nexts = omega (arith, l.nexts, p.sound.few.arcs);
-      queues = search rules;
-      heads = l.arcs;
-      others = l.others;
-      places = at_most_zeros 128 127 _ refl;
-    }
+pub link-requires : goal.link-requires
+link-requires c = (omega arith, at_most_zeros 128 0, at_most_zeros 128 0)
+
+pub invariant_of-queue : goal.invariant_of-queue
+invariant_of-queue c = record { inside = (omega arith, omega arith); below = at_most_zeros 128 127 }

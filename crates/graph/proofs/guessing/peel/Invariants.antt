@@ -1,21 +1,11 @@
--- `guessing::peel` meets its contract: whatever the order, each step leaves values that are attained.
-use Prim.Native.Nat.{◌+◌, ◌-◌, ◌≤◌}
-use mathlib.Core.Path.{◌≡◌}
-use lib.ListN.{length}
-use Rattle.graph.specs.Graphs.{graph}
-use Rattle.graph.specs.Parts.{AtMost}
-use Rattle.graph.proofs.Lifting.{Going}
+-- `guessing::peel` meets its contract: at most 128 places are taken.
+use Rattle.std.proofs.Common.{◌-◌, ◌*◌}
+use Rattle.graph.specs.Graphs.{graph_of}
+use Rattle.graph.specs.Parts.{turned, Grown}
 use Rattle.graph.proofs.guessing.peel.Given as goal
 
-abbrev pub invariant-loop-steps : goal.invariant-loop-steps
-invariant-loop-steps l =
-    (l.steps ≤ length l.executions + length l.befores)
-    × Going (graph l.executions l.befores l.afters l.hops) l.initial.found l.found (length l.executions + length l.befores - l.steps)
-    × (length l.left ≡ length l.initial.left)
-    × (length l.queue ≡ length l.initial.queue)
-    × AtMost 127 l.queue
-    × (l.tail ≤ length l.initial.queue)
-    × (l.link ≤ length l.befores)
+abbrev pub invariant-loop-place : goal.invariant-loop-place
+invariant-loop-place l = Grown (graph_of l.links.sound.graph) (l.queue.head * turned) l.initial.found l.found
 
-abbrev pub decreases-loop-steps : goal.decreases-loop-steps
-decreases-loop-steps l = l.steps
+abbrev pub decreases-loop-place : goal.decreases-loop-place
+decreases-loop-place l = 128 - l.queue.head

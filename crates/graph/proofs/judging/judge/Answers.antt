@@ -1,67 +1,75 @@
 -- `judging::judge` meets its contract: each return is one of the two tests or what a search found.
-use Rattle.graph.specs.Graphs.{graph}
+use Rattle.std.proofs.Common.{arith, sym, ◌≡◌}
+use Rattle.std.proofs.lemmas.Result.{err_from_is_err_and}
+use Rattle.graph.specs.Graphs.{graph_of}
 use Rattle.graph.specs.Answers.{judgement}
-use Rattle.graph.proofs.Judged.{one_length_lem, few_so, execution_out, executions_in, hop_out, hops_in, arc_out, arcs_in}
+use Rattle.graph.proofs.Judged.{one_length_lem, hops_judged, sound}
 use Rattle.graph.proofs.judging.judge.Goals as goal
+use Rattle.graph.proofs.judging.judge.Goals.{In_ok-named}
+use Rattle.subjobs.specs.declared.Judgement.TheVariants.{Passed}
 
-pub returns-then-not-results-n : goal.returns-then-not-results-n
+pub returns-then-not-results-n-clause-answer : goal.returns-then-not-results-n-clause-answer
 unfolding judgement
-returns-then-not-results-n c = rw c.if-not-results-n.true
+returns-then-not-results-n-clause-answer c = rw c.if-not-results-n.true
 
-pub returns-then-not-n-m : goal.returns-then-not-n-m
+pub returns-then-not-n-m-clause-answer : goal.returns-then-not-n-m-clause-answer
 unfolding judgement
-returns-then-not-n-m c = rw (c.if-not-results-n.false, c.if-not-n-m.true)
+returns-then-not-n-m-clause-answer c = rw (c.if-not-results-n.false, c.if-not-n-m.true)
 
-pub returns-then-place-n : goal.returns-then-place-n
+pub returns-in_err-in_range-clause-answer : goal.returns-in_err-in_range-clause-answer
 unfolding judgement
-returns-then-place-n c =
-    let a = c.args in
-    let g = graph a.executions.now a.befores.now a.afters.now a.hops.now in
-    rw (c.if-not-results-n.false, c.if-not-n-m.false, execution_out g c.first_outside-place.ensures c.if-place-n.true)
+returns-in_err-in_range-clause-answer c =
+    let p = err_from_is_err_and c.from_residual.result c.from_residual.ensures.1 in
+    rw (p.1, p.2, c.if-not-results-n.false, c.if-not-n-m.false, ← c.in_err-in_range.ensures)
 
-pub returns-then-hop-m : goal.returns-then-hop-m
+pub returns-in_err-in_range-2-clause-answer : goal.returns-in_err-in_range-2-clause-answer
 unfolding judgement
-returns-then-hop-m c =
-    let a = c.args in
-    let g = graph a.executions.now a.befores.now a.afters.now a.hops.now in
-    let long = one_length_lem g a.results c.if-not-results-n.false in
+returns-in_err-in_range-2-clause-answer c =
+    let p = err_from_is_err_and c.from_residual-in_err-in_range-2.result c.from_residual-in_err-in_range-2.ensures.1 in
+    let g = graph_of c.args.graph in
+    let l = one_length_lem g c.args.results c.if-not-results-n.false in
+    rw (
+      p.1,
+      p.2,
+      c.if-not-results-n.false,
+      c.if-not-n-m.false,
+      ← c.in_ok-in_range.ensures,
+      ← hops_judged g l.hops c.in_err-in_range-2.ensures,
+    )
+
+pub returns-in_err-named-clause-answer : goal.returns-in_err-named-clause-answer
+unfolding judgement
+returns-in_err-named-clause-answer c =
+    let p = err_from_is_err_and c.from_residual-in_err-named.result c.from_residual-in_err-named.ensures.1 in
+    let g = graph_of c.args.graph in
+    let l = one_length_lem g c.args.results c.if-not-results-n.false in
+    rw (
+      p.1,
+      p.2,
+      c.if-not-results-n.false,
+      c.if-not-n-m.false,
+      ← c.in_ok-in_range.ensures,
+      ← hops_judged g l.hops c.in_ok-in_range-2.ensures,
+      ← c.in_err-named.ensures,
+    )
+
+passes : (c : In_ok-named) → judgement (graph_of c.args.graph) c.args.results ≡ Passed
+unfolding judgement
+passes c =
+    let g = graph_of c.args.graph in
+    let l = one_length_lem g c.args.results c.if-not-results-n.false in
     rw (
       c.if-not-results-n.false,
       c.if-not-n-m.false,
-      executions_in g c.first_outside-place.ensures c.if-place-n.false,
-      hop_out g long.hops c.first_outside-hop.ensures c.if-hop-m.true,
+      ← c.in_ok-in_range.ensures,
+      ← hops_judged g l.hops c.in_ok-in_range-2.ensures,
+      ← c.in_ok-named.ensures,
     )
 
-pub first_stray-arc-requires : goal.first_stray-arc-requires
-first_stray-arc-requires c =
-    let a = c.args in
-    let g = graph a.executions.now a.befores.now a.afters.now a.hops.now in
-    ((few_so g c.if-not-n-m.false).subjobs, (one_length_lem g a.results c.if-not-results-n.false).afters)
+pub invariant_of-result : goal.invariant_of-result
+invariant_of-result c =
+    let s = sound (graph_of c.args.graph) c.args.results (passes c) in
+    record { sound = rw s.lengths.results at s }
 
-pub returns-then-arc-m : goal.returns-then-arc-m
-unfolding judgement
-returns-then-arc-m c =
-    let a = c.args in
-    let g = graph a.executions.now a.befores.now a.afters.now a.hops.now in
-    let long = one_length_lem g a.results c.if-not-results-n.false in
-    rw (
-      c.if-not-results-n.false,
-      c.if-not-n-m.false,
-      executions_in g c.first_outside-place.ensures c.if-place-n.false,
-      hops_in g long.hops c.first_outside-hop.ensures c.if-hop-m.false,
-      arc_out g c.first_stray-arc.ensures c.if-arc-m.true,
-    )
-
-pub returns : goal.returns
-unfolding judgement
-returns c =
-    let a = c.args in
-    let g = graph a.executions.now a.befores.now a.afters.now a.hops.now in
-    let long = one_length_lem g a.results c.if-not-results-n.false in
-    rw (
-      c.if-not-results-n.false,
-      c.if-not-n-m.false,
-      executions_in g c.first_outside-place.ensures c.if-place-n.false,
-      hops_in g long.hops c.first_outside-hop.ensures c.if-hop-m.false,
-      arcs_in g c.first_stray-arc.ensures c.if-arc-m.false,
-    )
+pub returns-clause-answer : goal.returns-clause-answer
+returns-clause-answer c = sym (passes (goal.at.returns-clause-answer c).In_ok-named)

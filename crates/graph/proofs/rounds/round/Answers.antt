@@ -1,43 +1,28 @@
 -- `rounds::round` meets its contract: after k arcs the values are what `Going` says.
-use borrow.Author.Rules.{rules}
-use mathlib.Core.Path.{refl}
-use native.Mathlib.Omega.{arith}
-use Rattle.graph.proofs.Raising.{going_start, going_up, going_stays, going_done, asking}
+use Rattle.std.proofs.Common.{arith, ◌≤◌, ◌≡◌, length}
+use Rattle.graph.specs.Graphs.{graph_of, size, arcs}
+use Rattle.graph.proofs.Growing.{grown_values}
+use Rattle.graph.proofs.Raising.{going_up, going_stays, going_done}
 use Rattle.graph.proofs.rounds.round.Goals as goal
+use Rattle.graph.proofs.rounds.round.Goals.{then-raise, else-raise}
 
-pub loop-k-init : goal.loop-k-init
-loop-k-init c =
-    (search rules, refl, going_start _ c.requires)
-
-pub asked-wish-requires : goal.asked-wish-requires
-asked-wish-requires c =
-    let L = c.loop-k in
-    let R = c.requires in
-    let h = c.loop-k-test.true in
-    asking _ L.found _ R.sound (omega (arith, R.room, L.invariant.2.room))
-    (λ i. omega (arith, L.invariant.2.bounded i, R.turn, R.sound.few.arcs, h))
-    c.arc_at.ensures.1
-
-pub loop-k-preserved-then-found-before : goal.loop-k-preserved-then-found-before
-loop-k-preserved-then-found-before c =
-    let L = c.loop-k in
-    let R = c.requires in
-    let h = c.loop-k-test.true in (
-      search rules,
-      refl,
-      going_up _ L.invariant.2 _ h c.arc_at.ensures.0 c.asked-wish.ensures R.sound (omega (arith, R.room, L.invariant.2.room)) c.if-found-before.true,
-    )
+pub raise-requires : goal.raise-requires
+raise-requires c =
+    let few = c.args.sound.now.sound.few.arcs in
+    (c.arc_at.ensures.1, grown_values _ 300 (omega arith) (omega arith) c.requires c.loop-k.invariant.grown)
 
 pub loop-k-preserved : goal.loop-k-preserved
 loop-k-preserved c =
-    let L = c.loop-k in (
-      search rules,
-      refl,
-      going_stays _ L.invariant.2 _ c.loop-k-test.true c.arc_at.ensures.0 c.asked-wish.ensures c.if-found-before.false,
-    )
+    let s = c.args.sound.now.sound in
+    let h = c.loop-k-test.true in
+    let room : size (graph_of c.args.sound.now.graph) ≤ length c.loop-k.found = omega (arith, c.requires.room, c.loop-k.auto.found) in
+    let R = rw c.arc_at.ensures.0 at c.raise.ensures in
+    elim c.if-raise.branch [
+      then-raise w ↦ rw w.rose-is (going_up _ s c.loop-k.invariant h room (rw w.if-raise.true at R))
+    | else-raise w ↦ rw w.rose-is (going_stays _ s c.loop-k.invariant h room (rw w.if-raise.false at R))
+    ]
 
 pub returns : goal.returns
 returns c =
-    let L = c.loop-k in
-    let R = c.requires in
-    going_done _ L.invariant.2 R.sound.few.arcs (omega (arith, L.invariant.0, c.loop-k-test.false))
+    let all : c.loop-k.k ≡ arcs (graph_of c.args.sound.now.graph) = omega (arith, c.loop-k.auto.k-end, c.loop-k-test.false) in
+    going_done _ c.args.sound.now.sound.few.arcs (rw all at c.loop-k.invariant)

@@ -1,57 +1,32 @@
 -- `rounds::settle` meets its contract: rounds end settled, or they show a cycle.
-use mathlib.Core.Path.{refl, ◌∙◌}
-use native.Mathlib.Omega.{arith}
-use Rattle.lists.proofs.Cases.{clash}
-use Rattle.graph.proofs.Raising.{turning_start, turning_round, turning_on, guessed_none}
+use Rattle.std.proofs.Common.{arith, ◌+◌, ◌≤◌, length, refl}
+use Rattle.graph.specs.Graphs.{graph_of, size}
+use Rattle.graph.proofs.Growing.{grown_none, grown_values}
+use Rattle.graph.proofs.Raising.{Turning, turning_start, turning_on}
 use Rattle.graph.proofs.rounds.settle.Goals as goal
+use Rattle.graph.proofs.rounds.settle.Goals.{then-turn-n, else-turn-n, Joined-turn-n}
 
 pub loop-turn-init : goal.loop-turn-init
-loop-turn-init c =
-    (refl, turning_start _ c.requires)
-
-pub round-rose-requires : goal.round-rose-requires
-round-rose-requires c =
-    turning_round _ c.requires.sound c.loop-turn.invariant.1 (omega (arith, c.loop-turn-test.true))
-
-pub returns-then-not-rose : goal.returns-then-not-rose
-returns-then-not-rose c =
-    let R = c.round-rose in
-    let T = c.loop-turn.invariant.1 in
-    let none = c.if-not-rose.true in
-    record { room = omega (arith, R.ensures.room, T.room); attained = R.ensures.attained; settled = λ e. R.ensures.settled none; cycle = λ e. clash refl e }
+loop-turn-init c = turning_start _ _ (omega (arith, c.requires.0, c.args.sound.now.sound.few.subjobs)) c.requires.1
 
 pub guess-requires : goal.guess-requires
 guess-requires c =
-    let R = c.round-rose.ensures in
-    let T = c.loop-turn.invariant.1 in
-    let s = c.requires.sound in
-    record {
-      sound = s;
-      room = omega (arith, R.room, T.room);
-      attained = R.attained;
-      bounded = λ i. omega (arith, R.bounded i, s.few.subjobs);
-    }
+    let few = c.args.sound.now.sound.few.subjobs in
+    grown_values _ 298 (omega arith) (omega arith) c.loop-turn.invariant.values c.round.ensures.grown
 
-pub loop-turn-preserved-then-turn-executions : goal.loop-turn-preserved-then-turn-executions
-loop-turn-preserved-then-turn-executions c =
-    let R = c.round-rose in
-    let G = c.guess.ensures in
-    let L = c.loop-turn in
-    let s = c.requires.sound in (
-      G.room ∙ R.ensures.room ∙ L.invariant.0,
-      turning_on _ s L.invariant.1 (omega (arith, c.loop-turn-test.true)) (rw c.if-not-rose.false at R.ensures) G,
-    )
+next : (c : Joined-turn-n) → Turning (graph_of c.args.sound.now.graph) c.if-turn-n.found (c.loop-turn.turn + 1)
+next c =
+    let R = rw c.if-not-round.false at c.round.ensures in
+    let on = c.loop-turn-test.true in
+    elim c.if-turn-n.branch [
+      then-turn-n w ↦ rw w.found-is (turning_on _ c.args.sound.now.sound c.loop-turn.invariant on R w.guess.ensures)
+    | else-turn-n w ↦ rw w.found-is (turning_on _ c.args.sound.now.sound c.loop-turn.invariant on R (grown_none _ _ _))
+    ]
 
 pub loop-turn-preserved : goal.loop-turn-preserved
-loop-turn-preserved c =
-    let R = c.round-rose in
-    let L = c.loop-turn in
-    let s = c.requires.sound in (
-      R.ensures.room ∙ L.invariant.0,
-      turning_on _ s L.invariant.1 (omega (arith, c.loop-turn-test.true)) (rw c.if-not-rose.false at R.ensures) (guessed_none _ _ R.ensures.attained),
-    )
+loop-turn-preserved c = next (goal.at.loop-turn-preserved c).Joined-turn-n
 
-pub returns : goal.returns
-returns c =
-    let L = c.loop-turn in
-    record { room = L.invariant.1.room; attained = L.invariant.1.attained; settled = λ e. clash e refl; cycle = λ e. L.invariant.1.cycle (omega (arith, c.loop-turn-test.false)) }
+pub returns-after-turn-n : goal.returns-after-turn-n
+returns-after-turn-n c =
+    let T = next (goal.at.returns-after-turn-n c).Joined-turn-n in
+    record { room = T.values.room; attained = T.values.attained; settled = tt; cycle = (refl, T.cycle (omega arith)) }

@@ -1,0 +1,25 @@
+-- `Links::take` meets its contract: each link leads to an earlier arc.
+use Rattle.std.proofs.Common.{arith, ◌<◌, ◌≤◌, ◌≡◌, ◌-◌, length, ap, ◌∙◌}
+use Rattle.graph.specs.declared.guessing.Queue.{Queue}
+use Rattle.graph.specs.Graphs.{graph_of, size, arcs}
+use Rattle.graph.specs.Parts.{at}
+use Rattle.graph.proofs.Growing.{grown_none, grown_on, grown_values, raised_grown}
+use Rattle.graph.proofs.guessing.Links.take.Goals as goal
+use Rattle.graph.proofs.guessing.Links.take.Goals.{then-last, else-last}
+
+pub raise-requires : goal.raise-requires
+raise-requires c =
+    (omega (arith, c.loop-link.invariant.inside), grown_values _ 300 (omega arith) (omega arith) c.requires.2 c.loop-link.invariant.grown)
+
+pub loop-link-preserved : goal.loop-link-preserved
+loop-link-preserved c =
+    let L = c.loop-link in
+    let S = c.args.self.now in
+    let h : L.link - 1 < arcs (graph_of S.sound.graph) = omega (arith, L.invariant.inside) in
+    let room : size (graph_of S.sound.graph) ≤ length L.found = omega (arith, c.requires.2.room, L.auto.found) in
+    let falls = S.falls (L.link - 1) in
+    record {
+      inside = omega arith;
+      head = elim c.if-last.branch [ then-last w ↦ ap (λ (q : Queue). q.head) w.queue-is ∙ w.push.ensures ∙ L.invariant.head | else-last w ↦ ap (λ (q : Queue). q.head) w.queue-is ∙ L.invariant.head ];
+      grown = grown_on _ _ (omega arith) L.invariant.grown (raised_grown _ S.sound.sound h room c.raise.ensures);
+    }
