@@ -4,10 +4,10 @@ use Prim.Native.Nat.{ℕ, ◌<◌, ◌≤◌}
 use mathlib.Core.List.{List, map}
 use mathlib.Core.Path.{◌≡◌, refl, sym, ap, ◌∙◌}
 use native.Mathlib.Omega.{arith}
-use lib.ListN.{length, take, replicate, length-map}
+use lib.ListN.{length, take, length-map}
 use Rattle.lists.specs.Places.{places, weight}
 use Rattle.lists.proofs.Members.{from-length}
-use Rattle.lists.proofs.Mapped.{zeros_at, take-map}
+use Rattle.lists.proofs.Mapped.{take-map}
 use Rattle.subjobs.specs.declared.Judgement.{Judgement}
 use Rattle.subjobs.specs.declared.Judgement.TheVariants.{Passed, Refused}
 use Rattle.subjobs.specs.declared.Reason.{Reason}

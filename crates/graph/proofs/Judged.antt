@@ -1,15 +1,15 @@
 -- The answer, both ways: a graph is accepted exactly if it is `Fit`, and it is refused for a reason exactly if it is `Faulty`
 -- for that reason.
-use Prim.Native.Nat.{ℕ, ◌+◌, ◌<◌, ◌≤◌}
-use mathlib.Core.Bool.{Bool, true, false, not, ◌&&◌}
+use Prim.Native.Nat.{ℕ, ◌<◌, ◌≤◌}
+use mathlib.Core.Bool.{Bool, true, not, ◌&&◌}
 use mathlib.Core.List.{List}
 use mathlib.Core.Logic.{◌⊎◌, ◌↔◌, inl, inr}
 use mathlib.Core.Path.{◌≡◌, refl, sym, ◌∙◌}
 use native.Mathlib.Omega.{arith}
-use borrow.Author.Tests.{eqb-true, eq-eqb, leb-true, le-leb, ltb-true, lt-ltb, le-ltb, not-true, not-false}
+use borrow.Author.Tests.{eqb-true, eq-eqb, leb-true, le-leb, ltb-true, lt-ltb, not-true, not-false}
 use lib.Dec.{leb, ltb, leb-zero}
 use lib.ListN.{length, get_or}
-use Rattle.std.specs.Prelude.{Option, Some, None, position}
+use Rattle.std.specs.Prelude.{Some, None, position}
 use Rattle.std.specs.List.{position_or_len, zip}
 use Rattle.std.proofs.lemmas.Slice.Zip.{get_or-zip, length-zip}
 use Rattle.std.proofs.lemmas.Option.{none-some}
@@ -33,8 +33,8 @@ use Rattle.graph.proofs.Listed.{cyclic_so, cycle_seen}
 
 -- What a search for the first element that fails a test found, as a judgement.
 module _
-  {X : Type 0} (P : X → Bool) (xs : List X) (d : X) (Q : ℕ → Bool) (w : ℕ → Reason)
-  (same : (i : ℕ) → i < length xs → Q i ≡ P (get_or xs i d)) where
+    {X : Type 0} (P : X → Bool) (xs : List X) (d : X) (Q : ℕ → Bool) (w : ℕ → Reason)
+    (same : (i : ℕ) → i < length xs → Q i ≡ P (get_or xs i d)) where
   searched : Exactly (first_refusal (λ i. unless (Q i) (w i)) (length xs)) ((j : ℕ) → j < length xs → Q j ≡ true) (λ r. (p : ℕ) × (p < length xs) × ((j : ℕ) → j < p → Q j ≡ true) × ((r ≡ w p) × (Q p ≡ true → ⊥)))
   searched = exactly_first _ _ _ (λ i. exactly_test (Q i) (w i) (λ e. e) (λ e. e)) (length xs)
 

@@ -21,7 +21,7 @@ use Rattle.subjobs.specs.declared.Judgement.{Judgement}
 use Rattle.subjobs.specs.declared.Judgement.TheVariants.{Passed, Refused}
 use Rattle.subjobs.specs.declared.Reason.{Reason}
 use Rattle.subjobs.specs.declared.Reason.TheVariants as reasons
-use Rattle.graph.specs.Graphs.{Graph, size, arcs, execution, before, after, hop, cost, Path, Cycle}
+use Rattle.graph.specs.Graphs.{Graph, size, arcs, before, after, cost, Path, Cycle}
 
 abbrev pub at : List ℕ → ℕ → ℕ
 at ns i = get_or ns i 0

@@ -33,10 +33,8 @@ fn in_range(numbers: &[u32], low: u32, high: u32, field: Field) -> Result<(), Re
 fn first_stray(befores: &[u32], afters: &[u32], n: usize) -> Option<usize>
     ensures { result ≡ position (λ arc. not (ltb arc.0 n && ltb arc.1 n)) (zip befores.now afters.now) }
 {
-    befores
-        .iter()
-        .zip(afters)
-        .position(|(before, after)| !((*before as usize) < n && (*after as usize) < n))
+    befores.iter().zip(afters).position(|(before, after)| !((*before as usize) < n
+        && (*after as usize) < n))
 }
 
 // 20: an arc that names no sub-job.

@@ -6,9 +6,8 @@ ghost use Rattle.graph.specs.Graphs.{graph, graph_of};
 ghost use Rattle.graph.specs.Answers.{Finds};
 ghost use Rattle.graph.specs.Parts.{judged};
 
-use subjobs::{Judgement, Reason};
-
 pub use lent::Graph;
+use subjobs::{Judgement, Reason};
 
 mod guessing;
 mod judging;

@@ -1,5 +1,5 @@
 -- `find` meets its contract: a refusal of `judge`, a cycle that the rounds show, or the values that they settle.
-use Rattle.std.proofs.Common.{arith, sym, refl, ◌≡◌, ◌∙◌, length}
+use Rattle.std.proofs.Common.{arith, sym, ◌∙◌}
 use Rattle.std.proofs.lemmas.Result.{err_from_is_err_and}
 use Rattle.graph.specs.Graphs.{graph_of}
 use Rattle.graph.proofs.Growing.{at_most_zeros}

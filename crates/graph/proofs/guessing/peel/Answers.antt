@@ -1,5 +1,5 @@
 -- `guessing::peel` meets its contract: at most 128 places are taken.
-use Rattle.std.proofs.Common.{arith, ◌<◌}
+use Rattle.std.proofs.Common.{arith}
 use Rattle.graph.proofs.Growing.{grown_none, grown_on, grown_values}
 use Rattle.graph.proofs.guessing.peel.Goals as goal
 

@@ -1,5 +1,5 @@
 -- `judging::judge` meets its contract: each return is one of the two tests or what a search found.
-use Rattle.std.proofs.Common.{arith, sym, ◌≡◌}
+use Rattle.std.proofs.Common.{sym, ◌≡◌}
 use Rattle.std.proofs.lemmas.Result.{err_from_is_err_and}
 use Rattle.graph.specs.Graphs.{graph_of}
 use Rattle.graph.specs.Answers.{judgement}

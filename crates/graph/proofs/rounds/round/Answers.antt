@@ -18,8 +18,8 @@ loop-k-preserved c =
     let room : size (graph_of c.args.sound.now.graph) ≤ length c.loop-k.found = omega (arith, c.requires.room, c.loop-k.auto.found) in
     let R = rw c.arc_at.ensures.0 at c.raise.ensures in
     elim c.if-raise.branch [
-      then-raise w ↦ rw w.rose-is (going_up _ s c.loop-k.invariant h room (rw w.if-raise.true at R))
-    | else-raise w ↦ rw w.rose-is (going_stays _ s c.loop-k.invariant h room (rw w.if-raise.false at R))
+      | then-raise w ↦ rw w.rose-is (going_up _ s c.loop-k.invariant h room (rw w.if-raise.true at R))
+      | else-raise w ↦ rw w.rose-is (going_stays _ s c.loop-k.invariant h room (rw w.if-raise.false at R))
     ]
 
 pub returns : goal.returns

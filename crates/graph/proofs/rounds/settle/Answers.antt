@@ -1,6 +1,6 @@
 -- `rounds::settle` meets its contract: rounds end settled, or they show a cycle.
-use Rattle.std.proofs.Common.{arith, ◌+◌, ◌≤◌, length, refl}
-use Rattle.graph.specs.Graphs.{graph_of, size}
+use Rattle.std.proofs.Common.{arith, ◌+◌, refl}
+use Rattle.graph.specs.Graphs.{graph_of}
 use Rattle.graph.proofs.Growing.{grown_none, grown_values}
 use Rattle.graph.proofs.Raising.{Turning, turning_start, turning_on}
 use Rattle.graph.proofs.rounds.settle.Goals as goal
@@ -19,8 +19,8 @@ next c =
     let R = rw c.if-not-round.false at c.round.ensures in
     let on = c.loop-turn-test.true in
     elim c.if-turn-n.branch [
-      then-turn-n w ↦ rw w.found-is (turning_on _ c.args.sound.now.sound c.loop-turn.invariant on R w.guess.ensures)
-    | else-turn-n w ↦ rw w.found-is (turning_on _ c.args.sound.now.sound c.loop-turn.invariant on R (grown_none _ _ _))
+      | then-turn-n w ↦ rw w.found-is (turning_on _ c.args.sound.now.sound c.loop-turn.invariant on R w.guess.ensures)
+      | else-turn-n w ↦ rw w.found-is (turning_on _ c.args.sound.now.sound c.loop-turn.invariant on R (grown_none _ _ _))
     ]
 
 pub loop-turn-preserved : goal.loop-turn-preserved

@@ -1,9 +1,8 @@
 -- `Links::take` meets its contract: each link leads to an earlier arc.
-use Rattle.std.proofs.Common.{arith, ◌<◌, ◌≤◌, ◌≡◌, ◌-◌, length, ap, ◌∙◌}
+use Rattle.std.proofs.Common.{arith, ◌<◌, ◌≤◌, ◌-◌, length, ap, ◌∙◌}
 use Rattle.graph.specs.declared.guessing.Queue.{Queue}
 use Rattle.graph.specs.Graphs.{graph_of, size, arcs}
-use Rattle.graph.specs.Parts.{at}
-use Rattle.graph.proofs.Growing.{grown_none, grown_on, grown_values, raised_grown}
+use Rattle.graph.proofs.Growing.{grown_on, grown_values, raised_grown}
 use Rattle.graph.proofs.guessing.Links.take.Goals as goal
 use Rattle.graph.proofs.guessing.Links.take.Goals.{then-last, else-last}
 

@@ -1,5 +1,5 @@
 -- `Links::take` meets its contract: each link leads to an earlier arc.
-use Rattle.std.proofs.Common.{ℕ, ◌≤◌, ◌≡◌, ◌-◌, ◌*◌}
+use Rattle.std.proofs.Common.{◌≤◌, ◌≡◌, ◌-◌, ◌*◌}
 use Rattle.graph.specs.Graphs.{graph_of, arcs}
 use Rattle.graph.specs.Parts.{Grown}
 use Rattle.graph.proofs.guessing.Links.take.Given as goal
