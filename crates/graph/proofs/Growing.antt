@@ -17,7 +17,7 @@ use Rattle.graph.specs.Parts.{at, ask, Attained, AtMost, most, Values, Grown, Ra
 use Rattle.graph.proofs.Paths.{cost_most}
 
 -- What stands at a place after one was set: the new value at its own place, the old one elsewhere.
-pub set_cases :
+set_cases :
     (d : List ℕ) (b v i : ℕ) (X : ℕ → Type 0)
     → b < length d
     → (i ≡ b → X v)
@@ -29,15 +29,13 @@ set_cases d b v i X h new old =
     (λ e. rw (get_or-set_other d b i v 0 (eqb_no i b e)) old)
 
 -- No number is above b after one was set that is not.
-pub at_most_set : {b : ℕ} (d : List ℕ) (k v : ℕ) → k < length d → v ≤ b → AtMost b d → AtMost b (set d k v)
+at_most_set : {b : ℕ} (d : List ℕ) (k v : ℕ) → k < length d → v ≤ b → AtMost b d → AtMost b (set d k v)
 at_most_set {b} d k v h le m i = set_cases d k v i (λ (w : ℕ). w ≤ b) h (λ e. le) (m i)
-
-pub at_most_more : {b c : ℕ} (d : List ℕ) → b ≤ c → AtMost b d → AtMost c d
-at_most_more d h m i = omega (arith, m i)
 
 pub at_most_zeros : (n b : ℕ) → AtMost b (replicate n 0)
 at_most_zeros n b i = omega (arith, zeros_at n i)
 
+-- What becomes of values when nothing is done, when one thing is done after another, and what values they are then.
 module _ (g : Graph) where
   pub grown_none : (b : ℕ) (d : List ℕ) → Grown g b d d
   grown_none b d = record { room = refl; attained = λ A. A; grown = λ i. omega arith; bounded = λ c m i. omega (arith, m i) }

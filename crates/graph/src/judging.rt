@@ -30,19 +30,21 @@ fn in_range(numbers: &[u32], low: u32, high: u32, field: Field) -> Result<(), Re
 }
 
 // The first arc that does not start from or does not lead to one of n sub-jobs.
-fn first_stray(befores: &[u32], afters: &[u32], n: usize) -> Option<usize>
+fn first_stray(befores: &[u32], afters: &[u32], n: u32) -> Option<usize>
     ensures { result ≡ position (λ arc. not (ltb arc.0 n && ltb arc.1 n)) (zip befores.now afters.now) }
 {
-    befores.iter().zip(afters).position(|(before, after)| !((*before as usize) < n
-        && (*after as usize) < n))
+    befores
+        .iter()
+        .zip(afters)
+        .position(|(before, after)| !(*before < n && *after < n))
 }
 
 // 20: an arc that names no sub-job.
 fn named(graph: &Graph) -> Result<(), Reason>
-    requires { length graph.now.afters.now ≡ length graph.now.befores.now }
+    requires { (size (graph_of graph.now) ≤ 128) × (length graph.now.afters.now ≡ length graph.now.befores.now) }
     ensures { judged result ≡ first_refusal (arc_at (graph_of graph.now)) (arcs (graph_of graph.now)) }
 {
-    match first_stray(graph.befores, graph.afters, graph.executions.len()) {
+    match first_stray(graph.befores, graph.afters, graph.executions.len() as u32) {
         Some(arc) => Err(Reason::Stray { arc }),
         None => Ok(()),
     }
