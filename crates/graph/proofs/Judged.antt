@@ -9,7 +9,7 @@ use native.Mathlib.Omega.{arith}
 use borrow.Author.Tests.{eqb-true, eq-eqb, leb-true, le-leb, ltb-true, lt-ltb, not-true, not-false}
 use lib.Dec.{leb, ltb, leb-zero}
 use lib.ListN.{length, get_or}
-use Rattle.std.specs.Prelude.{Some, None, position}
+use Rattle.std.specs.Prelude.{Ok, Err, Some, None, position}
 use Rattle.std.specs.List.{position_or_len, zip}
 use Rattle.std.proofs.lemmas.Slice.Zip.{get_or-zip, length-zip}
 use Rattle.std.proofs.lemmas.Option.{none-some}
@@ -17,8 +17,7 @@ use Rattle.std.proofs.lemmas.List.Quantifiers.{position-Some}
 use Rattle.std.proofs.lemmas.List.Sums.{fails_before_first}
 use Rattle.lists.proofs.Cases.{split, test, clash, both, tests}
 use Rattle.subjobs.specs.declared.Field.TheVariants as fields
-use Rattle.subjobs.specs.declared.Judgement.{Judgement}
-use Rattle.subjobs.specs.declared.Judgement.TheVariants.{Passed, Refused}
+use Rattle.subjobs.specs.Judging.{Judgement}
 use Rattle.subjobs.specs.declared.Reason.{Reason}
 use Rattle.subjobs.specs.declared.Reason.TheVariants.{Lengths, TooMany, Range, Stray, Cycle}
 use Rattle.subjobs.specs.Reasons.{place_of}
@@ -38,13 +37,13 @@ module _
   searched : Exactly (first_refusal (λ i. unless (Q i) (w i)) (length xs)) ((j : ℕ) → j < length xs → Q j ≡ true) (λ r. (p : ℕ) × (p < length xs) × ((j : ℕ) → j < p → Q j ≡ true) × ((r ≡ w p) × (Q p ≡ true → ⊥)))
   searched = exactly_first _ _ _ (λ i. exactly_test (Q i) (w i) (λ e. e) (λ e. e)) (length xs)
 
-  pub position_refused : (k : ℕ) → Some k ≡ position (λ x. not (P x)) xs → first_refusal (λ i. unless (Q i) (w i)) (length xs) ≡ Refused (w k)
+  pub position_refused : (k : ℕ) → Some k ≡ position (λ x. not (P x)) xs → first_refusal (λ i. unless (Q i) (w i)) (length xs) ≡ Err (w k)
   position_refused k e =
       let f = position-Some (λ x. not (P x)) xs k d (sym e) in
       searched.refuses (w k)
       (k, f.0, (λ j h. same j (omega (arith, f.0)) ∙ not-false _ (f.2 j h)), (refl, λ t. clash (sym (same k f.0) ∙ t) (not-true _ f.1)))
 
-  pub position_passed : None ≡ position (λ x. not (P x)) xs → first_refusal (λ i. unless (Q i) (w i)) (length xs) ≡ Passed
+  pub position_passed : None ≡ position (λ x. not (P x)) xs → first_refusal (λ i. unless (Q i) (w i)) (length xs) ≡ Ok tt
   position_passed e =
       let n = position_or_len (λ x. not (P x)) xs in
       test (ltb n (length xs))
@@ -71,10 +70,10 @@ module _ (g : Graph) (l : length g.afters ≡ arcs g) where
   same_ends : (i : ℕ) → i < length (zip g.befores g.afters) → (ltb (before g i) (size g) && ltb (after g i) (size g)) ≡ Ends (get_or (zip g.befores g.afters) i (0, 0))
   same_ends i h = rw (get_or-zip g.befores g.afters i (0, 0) (omega (arith, long)) (omega (arith, long))) refl
 
-  pub stray_refused : (k : ℕ) → Some k ≡ position (λ arc. not (Ends arc)) (zip g.befores g.afters) → first_refusal (arc_at g) (arcs g) ≡ Refused (Stray k)
+  pub stray_refused : (k : ℕ) → Some k ≡ position (λ arc. not (Ends arc)) (zip g.befores g.afters) → first_refusal (arc_at g) (arcs g) ≡ Err (Stray k)
   stray_refused k e = rw long at (position_refused Ends (zip g.befores g.afters) (0, 0) _ Stray same_ends k e)
 
-  pub stray_passed : None ≡ position (λ arc. not (Ends arc)) (zip g.befores g.afters) → first_refusal (arc_at g) (arcs g) ≡ Passed
+  pub stray_passed : None ≡ position (λ arc. not (Ends arc)) (zip g.befores g.afters) → first_refusal (arc_at g) (arcs g) ≡ Ok tt
   stray_passed e = rw long at (position_passed Ends (zip g.befores g.afters) (0, 0) _ Stray same_ends e)
 
 module _ (g : Graph) where
@@ -137,7 +136,7 @@ module _ (g : Graph) where
         (λ r q. q)
         (λ r q. q)
 
-    pub sound : judgement g n ≡ Passed → Sound g n
+    pub sound : judgement g n ≡ Ok tt → Sound g n
     sound = (passing sound_exactly).0
 
     -- and 21
@@ -175,14 +174,14 @@ module _ (g : Graph) where
         faulty _ (stray a l m c d b all n) = inl (inr (l, inr (m, inr (c, inr (d, (a, b, all, (refl, n)))))))
         faulty _ (cycle s c) = inr (s, (refl, c))
 
-    pub found_exactly : (answer g n ≡ Passed) ↔ Fit g n
+    pub found_exactly : (answer g n ≡ Ok tt) ↔ Fit g n
     found_exactly = passing answered
 
-    pub refused_exactly : (r : Reason) → (answer g n ≡ Refused r) ↔ Faulty g n r
+    pub refused_exactly : (r : Reason) → (answer g n ≡ Err r) ↔ Faulty g n r
     refused_exactly = refusing answered
 
     -- A place or an arc that is reported is one of 1,024.
-    pub refused_within : (r : Reason) → answer g n ≡ Refused r → place_of r < 1_024
+    pub refused_within : (r : Reason) → answer g n ≡ Err r → place_of r < 1_024
     refused_within r e = within_arcs ((refused_exactly r).0 e)
       where
         within_arcs : {r : Reason} → Faulty g n r → place_of r < 1_024

@@ -12,7 +12,7 @@ use mathlib.Core.List.{List, [], ◌∷◌, map, flat_map}
 use Rattle.lists.specs.Places.{places, filter, weight, greatest}
 use Rattle.lists.specs.Search.{some}
 use Rattle.subjobs.specs.declared.Field.TheVariants.{Execution, Hop}
-use Rattle.subjobs.specs.declared.Judgement.{Judgement}
+use Rattle.subjobs.specs.Judging.{Judgement}
 use Rattle.subjobs.specs.declared.Reason.TheVariants.{Lengths, TooMany, Range, Stray, Cycle}
 use Rattle.subjobs.specs.Judging.{unless, or_else, if_passed, first_refusal}
 use Rattle.graph.specs.Graphs.{Graph, size, arcs, execution, before, after, hop, cost, end}

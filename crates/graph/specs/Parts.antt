@@ -14,12 +14,9 @@
 --   Rounded g d d' rose == what a round leaves, and whether any value rose
 --   Settles g d r      == what all rounds together leave, and whether they show a cycle
 --   Small d n          == the first n values fit 32 bits
---   judged r           == an answer as a judgement
-use Rattle.std.specs.Prelude.{ℕ, ◌+◌, ◌-◌, ◌*◌, ◌%◌, ◌<◌, ◌≤◌, Bool, true, false, cond, List, ◌≡◌, eqb, length, get_or, slice_set, Result, Ok, Err, IfOk, IfErr}
+use Rattle.std.specs.Prelude.{ℕ, ◌+◌, ◌-◌, ◌*◌, ◌%◌, ◌<◌, ◌≤◌, Bool, true, false, cond, List, ◌≡◌, eqb, length, get_or, slice_set, IfOk, IfErr}
 use Rattle.lists.specs.Places.{weight}
-use Rattle.subjobs.specs.declared.Judgement.{Judgement}
-use Rattle.subjobs.specs.declared.Judgement.TheVariants.{Passed, Refused}
-use Rattle.subjobs.specs.declared.Reason.{Reason}
+use Rattle.subjobs.specs.Judging.{Judgement}
 use Rattle.subjobs.specs.declared.Reason.TheVariants as reasons
 use Rattle.graph.specs.Graphs.{Graph, size, arcs, before, after, cost, Path, Cycle}
 
@@ -74,7 +71,7 @@ pub record Rounded (g : Graph) (d d' : List ℕ) (rose : Bool) : Type 0 where
   pub rises : rose ≡ true → Rises g d
   pub settled : rose ≡ false → Settled g d'
 
-pub record Settles (g : Graph) (d : List ℕ) (r : Result (Unit {0}) Reason) : Type 0 where
+pub record Settles (g : Graph) (d : List ℕ) (r : Judgement) : Type 0 where
   pub room : size g ≤ length d
   pub attained : Attained g d
   pub settled : IfOk r (λ _. Settled g d)
@@ -83,8 +80,3 @@ pub record Settles (g : Graph) (d : List ℕ) (r : Result (Unit {0}) Reason) : T
 pub record Small (d : List ℕ) (n : ℕ) : Type 0 where
   pub room : n ≤ length d
   pub small : (i : ℕ) → i < n → at d i < 4_294_967_296
-
--- what an answer with a value says without it
-abbrev pub judged : {T : Type 0} → Result T Reason → Judgement
-judged (Ok _) = Passed
-judged (Err r) = Refused r

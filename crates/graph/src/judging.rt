@@ -1,11 +1,11 @@
 // Refusals 1, 2, 3 and 20 of a graph.
 ghost use Rattle.std.specs.Prelude.{◌≤◌, ◌≡◌, ◌&&◌, leb, ltb, not, length, position, IfOk};
 ghost use Rattle.std.specs.List.{zip};
-ghost use Rattle.subjobs.specs.Judging.{unless, first_refusal};
+ghost use Rattle.subjobs.specs.Judging.{judged, unless, first_refusal};
 ghost use Rattle.subjobs.specs.declared.Reason.TheVariants.{Range, Stray};
 ghost use Rattle.graph.specs.Graphs.{graph_of, size, arcs};
 ghost use Rattle.graph.specs.Answers.{arc_at, judgement};
-ghost use Rattle.graph.specs.Parts.{at, judged};
+ghost use Rattle.graph.specs.Parts.{at};
 
 use crate::lent::{Graph, SoundGraph};
 use subjobs::{Field, Reason};
@@ -19,7 +19,7 @@ fn first_outside(numbers: &[u32], low: u32, high: u32) -> Option<usize>
 
 // 3: a number that is not one of `low` to `high`.
 fn in_range(numbers: &[u32], low: u32, high: u32, field: Field) -> Result<(), Reason>
-    ensures { judged result ≡ first_refusal
+    ensures { result ≡ first_refusal
         (λ i. unless (leb low (at numbers.now i) && leb (at numbers.now i) high) (Range i field))
         (length numbers.now) }
 {
@@ -42,7 +42,7 @@ fn first_stray(befores: &[u32], afters: &[u32], n: u32) -> Option<usize>
 // 20: an arc that names no sub-job.
 fn named(graph: &Graph) -> Result<(), Reason>
     requires { (size (graph_of graph.now) ≤ 128) × (length graph.now.afters.now ≡ length graph.now.befores.now) }
-    ensures { judged result ≡ first_refusal (arc_at (graph_of graph.now)) (arcs (graph_of graph.now)) }
+    ensures { result ≡ first_refusal (arc_at (graph_of graph.now)) (arcs (graph_of graph.now)) }
 {
     match first_stray(graph.befores, graph.afters, graph.executions.len() as u32) {
         Some(arc) => Err(Reason::Stray { arc }),
@@ -51,9 +51,8 @@ fn named(graph: &Graph) -> Result<(), Reason>
 }
 
 // The refusals in their order; `results` is the length of the result list.
-pub(crate) fn judge<'a>(graph: Graph<'a>, results: usize) -> Result<SoundGraph<'a>, Reason>
-    ensures answer { judged result ≡ judgement (graph_of graph.entry) results }
-    ensures same { IfOk result (λ s. s.graph ≡ graph.entry) }
+fn refusals(graph: &Graph<'_>, results: usize) -> Result<(), Reason>
+    ensures { result ≡ judgement (graph_of graph.now) results }
 {
     let n = graph.executions.len();
     let m = graph.befores.len();
@@ -65,6 +64,14 @@ pub(crate) fn judge<'a>(graph: Graph<'a>, results: usize) -> Result<SoundGraph<'
     }
     in_range(graph.executions, 1, 1_000_000, Field::Execution)?;
     in_range(graph.hops, 0, 100_000, Field::Hop)?;
-    named(&graph)?;
-    Ok(SoundGraph { graph })
+    named(graph)
+}
+
+// The same graph, if it passes.
+pub(crate) fn judge<'a>(graph: &Graph<'a>, results: usize) -> Result<SoundGraph<'a>, Reason>
+    ensures answer { judged result ≡ judgement (graph_of graph.now) results }
+    ensures same { IfOk result (λ sound. sound.graph ≡ graph.now) }
+{
+    refusals(graph, results)?;
+    Ok(SoundGraph { graph: *graph })
 }
