@@ -1,4 +1,5 @@
 -- A room's judgement, both ways: it is read exactly if it is `Fit`, and refused for a reason exactly if it is `Faulty` for it.
+use Rattle.std.specs.Prelude.{Ok, Err}
 use Prim.Native.Nat.{ℕ, ◌+◌, ◌-◌, ◌≤◌, ◌<◌}
 use mathlib.Core.Bool.{Bool, true, false, ◌&&◌}
 use mathlib.Core.List.{List}
@@ -11,7 +12,6 @@ use lib.ListN.{length, get_or, drop, drop_of_length-le}
 use Rattle.lists.specs.Places.{total}
 use Rattle.lists.proofs.Cases.{split, test, both, eqb_no}
 use Rattle.lists.proofs.Sums.{weight-nil, total_left}
-use Rattle.subjobs.specs.declared.Judgement.TheVariants.{Passed, Refused}
 use Rattle.subjobs.specs.declared.Reason.{Reason}
 use Rattle.subjobs.specs.declared.Reason.TheVariants.{Lengths, TooLarge}
 use Rattle.subjobs.specs.Sets.{size}
@@ -63,10 +63,10 @@ module _ (R : Room) where
       faulty _ (lengths n) = inl (refl, n)
       faulty _ (large w n) = inr (w, (refl, n))
 
-  pub read_exactly : (judgement R ≡ Passed) ↔ Fit R
+  pub read_exactly : (judgement R ≡ Ok tt) ↔ Fit R
   read_exactly = passing judged
 
-  pub refused_exactly : (r : Reason) → (judgement R ≡ Refused r) ↔ Faulty R r
+  pub refused_exactly : (r : Reason) → (judgement R ≡ Err r) ↔ Faulty R r
   refused_exactly = refusing judged
 
 -- Lengths are taken off the number of places: what is left is what the lengths from the k-th on must make up.

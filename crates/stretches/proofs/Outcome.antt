@@ -1,4 +1,5 @@
 -- What callers need of a room that is read: set by set, what is told of it and what stands in its stretch.
+use Rattle.std.specs.Prelude.{Ok, Err}
 use Prim.Native.Nat.{ℕ, ◌+◌, ◌*◌, ◌≤◌, ◌<◌}
 use mathlib.Core.List.{List, flatten}
 use mathlib.Core.Path.{◌≡◌, ap, ◌∙◌}
@@ -7,7 +8,6 @@ use borrow.Author.Tests.{eqb-true}
 use lib.ListN.{length, get_or, drop, length-drop}
 use lib.Seq.{length-take-le}
 use Rattle.lists.proofs.Sums.{total_left}
-use Rattle.subjobs.specs.declared.Judgement.TheVariants.{Passed, Refused}
 use Rattle.subjobs.specs.declared.Reason.{Reason}
 use Rattle.subjobs.specs.Sets.{size}
 use Rattle.olda.proofs.Results.{results-length}
@@ -18,7 +18,7 @@ use Rattle.stretches.proofs.Stretched.{each-length, each_at, start_left, joined_
 use Rattle.stretches.proofs.Judged.{read_exactly}
 
 -- A room that is refused keeps its lists.
-module _ (R : Room) (r : Reason) (e : judgement R ≡ Refused r) where
+module _ (R : Room) (r : Reason) (e : judgement R ≡ Err r) where
   pub refused_keeps : (deadlines_after R ≡ R.deadlines) × (numbers_after R ≡ R.numbers) × (places_after R ≡ R.places)
   unfolding deadlines_after numbers_after places_after
   refused_keeps = (rw e, rw e, rw e)
@@ -27,7 +27,7 @@ module _ (R : Room) (F : Fit R) where
   abbrev ns : List ℕ
   ns = R.lengths
 
-  read : judgement R ≡ Passed
+  read : judgement R ≡ Ok tt
   read = (read_exactly R).1 F
 
   read_deadlines : deadlines_after R ≡ flatten (each (results_at R.sets R.deadlines) 0 ns)

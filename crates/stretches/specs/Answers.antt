@@ -10,16 +10,15 @@
 --   judgement R     == refusals 1 and 22
 --   deadlines_after R, numbers_after R, places_after R == what the three lists hold afterwards
 --   Assigns R r out ks ps == what `assign` is held to: the answer r, and these three lists
-use Rattle.std.specs.Prelude.{ℕ, Bool, ◌&&◌, ◌≡◌, leb, eqb, length}
+use Rattle.std.specs.Prelude.{Ok, Err, ℕ, Bool, ◌&&◌, ◌≡◌, leb, eqb, length}
 use mathlib.Core.List.{List, flatten}
 use Rattle.lists.specs.Places.{total}
-use Rattle.subjobs.specs.declared.Judgement.{Judgement}
+use Rattle.subjobs.specs.Judging.{Judgement}
 use Rattle.subjobs.specs.declared.Reason.TheVariants.{Lengths, TooLarge}
 use Rattle.subjobs.specs.Reasons.{number_of, place_of}
 use Rattle.subjobs.specs.Sets.{Subjobs, subjobs, size}
 use Rattle.subjobs.specs.Judging.{one_length, unless, or_else, if_passed}
-use Rattle.olda.specs.declared.Answer.{Answer}
-use Rattle.olda.specs.declared.Answer.TheVariants.{Placed, Nothing, Refused}
+use Rattle.olda.specs.Answers.{Answer}
 use Rattle.olda.specs.Answers.{answer, results}
 use Rattle.stretches.specs.Stretches.{stretch, each}
 
@@ -49,15 +48,13 @@ results_at s out a n = results (set_at s a n) (stretch a n out)
 
 -- its number: 0 or the refusal
 abbrev pub number : Answer → ℕ
-number (Placed r) = 0
-number Nothing = 0
-number (Refused r) = number_of r
+number (Ok r) = 0
+number (Err r) = number_of r
 
 -- and its place: 0 if accepted; counted from the start of that set
 abbrev pub place : Answer → ℕ
-place (Placed r) = 0
-place Nothing = 0
-place (Refused r) = place_of r
+place (Ok r) = 0
+place (Err r) = place_of r
 
 -- 1: lists of one kind differ in length, or the lengths do not add up
 abbrev pub fitting : Subjobs → List ℕ → (deadlines numbers places : ℕ) → Bool

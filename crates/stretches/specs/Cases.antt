@@ -4,9 +4,8 @@
 --   alone ns   == one sub-job, with the lengths ns
 --   long       == a set of 129 sub-jobs
 --   Cases      == what `assign` says of them and leaves
-use Rattle.std.specs.Prelude.{ℕ, List, [], ◌∷◌, ◌≡◌, length, replicate}
+use Rattle.std.specs.Prelude.{Ok, Err, ℕ, List, [], ◌∷◌, ◌≡◌, length, replicate}
 use Rattle.lists.specs.Places.{places}
-use Rattle.subjobs.specs.declared.Judgement.TheVariants.{Passed, Refused}
 use Rattle.subjobs.specs.declared.Reason.TheVariants.{Lengths, TooLarge}
 use Rattle.subjobs.specs.Sets.{subjobs}
 use Rattle.stretches.specs.Answers.{Room, room, judgement, deadlines_after, numbers_after, places_after}
@@ -37,18 +36,18 @@ long =
     (7 ∷ [])
 
 pub record Cases : Type 0 where
-  pub reads : judgement worked ≡ Passed
+  pub reads : judgement worked ≡ Ok tt
   pub numbers : numbers_after worked ≡ 0 ∷ 0 ∷ 5 ∷ 0 ∷ []
   -- of the third set its own place 1
   pub places : places_after worked ≡ 0 ∷ 0 ∷ 1 ∷ 0 ∷ []
   -- which keeps its stretch, and the fourth is assigned
   pub deadlines : deadlines_after worked ≡ 4 ∷ 7 ∷ 92 ∷ 93 ∷ 1 ∷ []
   -- lengths that add up to 1 only if the sum is cut off at 32 bits
-  pub wraps : judgement (alone (4_294_967_295 ∷ 2 ∷ [])) ≡ Refused Lengths
+  pub wraps : judgement (alone (4_294_967_295 ∷ 2 ∷ [])) ≡ Err Lengths
   -- 32 sets are read, 33 are not; and if the lengths do not add up either, it is number 1
   pub thirty_two : numbers_after (alone (1 ∷ replicate 31 0)) ≡ replicate 32 0
-  pub thirty_three : judgement (alone (1 ∷ replicate 32 0)) ≡ Refused TooLarge
-  pub neither : judgement (alone (2 ∷ replicate 32 0)) ≡ Refused Lengths
+  pub thirty_three : judgement (alone (1 ∷ replicate 32 0)) ≡ Err TooLarge
+  pub neither : judgement (alone (2 ∷ replicate 32 0)) ≡ Err Lengths
   -- a set of 129 is that set's number 2
   pub too_many : numbers_after long ≡ 2 ∷ []
   pub stays : deadlines_after long ≡ replicate 129 9
