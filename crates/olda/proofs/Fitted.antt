@@ -6,6 +6,7 @@ use mathlib.Core.List.{List}
 use mathlib.Core.Path.{◌≡◌, refl, sym, ap, ◌∙◌}
 use native.Mathlib.Omega.{arith}
 use lib.ListN.{length, take, replicate, length-replicate}
+use lib.Seq.{take_all}
 use lib.IntN.{ℤ}
 use Rattle.lists.specs.Places.{places}
 use Rattle.lists.proofs.Members.{in_every, from-length}
@@ -47,12 +48,16 @@ module _ {s : Subjobs} {others : Bool} (f : Fit s others) (room : ℕ) (enough :
         execution = q.execution;
       }
 
-  module _ {os : List ℕ} (so : take (length s.releases) os ≡ in_order (release s) (places (length s.releases))) where
+  -- The places in release order, all of the set.
+  module _ {os : List ℕ} (so : os ≡ in_order (release s) (places (length s.releases))) (long : length os ≡ length s.releases) where
+    whole : take (length os) os ≡ in_order (release s) (places (length s.releases))
+    whole = take_all (length os) os (omega arith) ∙ so
+
     pub fit_placing :
-        {us : List ℕ}
+        {us es : List ℕ}
         → length us ≡ room
-        → length os ≡ room
-        → Placing s us os (replicate room 0) (replicate room 0) (length s.releases)
+        → length es ≡ length s.releases
+        → Placing s us os es (replicate room 0) (length os)
     fit_placing u o =
         let l = f.lengths.releases in
         let n = length s.releases in
@@ -63,26 +68,26 @@ module _ {s : Subjobs} {others : Bool} (f : Fit s others) (room : ℕ) (enough :
           bounds = omega arith;
           local = omega (arith, length-replicate {A = ℕ} room 0);
           order = omega arith;
-          ends = omega (arith, length-replicate {A = ℕ} room 0);
+          ends = omega arith;
           few = omega (arith, f.few);
-          each = rw so (in_every (Ranged s.releases s.executions) (in_order (release s) (places n)) (λ i k. ranged i (in_order-below (release s) n k)));
-          once = rw so (nodup_in_order (release s) n);
+          each = rw whole (in_every (Ranged s.releases s.executions) (in_order (release s) (places n)) (λ i k. ranged i (in_order-below (release s) n k)));
+          once = rw whole (nodup_in_order (release s) n);
         }
 
     module _
         {us ls : List ℕ}
         {r : Judgement}
         (up : Raised (terms s) (length s.deadlines) us)
-        (p : Placed s us os (replicate room 0) (length s.releases) r ls)
+        (p : Placed s us os (replicate room 0) (length os) r ls)
       where
         raised_all : Raised (terms s) (size s) us
         raised_all i h = up i (omega (arith, f.lengths.deadlines))
 
         -- The steps are the method's,
-        by_method : stepped s us os (replicate room 0) (length s.releases) ≡ method s
+        by_method : stepped s us os (replicate room 0) (length os) ≡ method s
         unfolding method
         by_method =
-            rw (so, f.lengths.releases, take-replicate (size s) room 0 enough, from-length 0 (size s))
+            rw (whole, long, f.lengths.releases, take-replicate (size s) room 0 enough, from-length 0 (size s))
             (raised-steps s (size s) us raised_all (size s) (in_order (release s) (places (size s))) (replicate (size s) 0) (in_order_below (release s) (size s)))
 
         -- and a bound that is refused is the set's.

@@ -11,7 +11,7 @@ use native.Mathlib.Omega.{arith}
 use borrow.Author.Tests.{le-leb, lt-leb}
 use lib.Dec.{eqb}
 use lib.ListN.{length, take, drop, set, length-set, length-take, length-drop}
-use lib.Seq.{length-take-le, get_or-take, get_or-drop, take-set-lt}
+use lib.Seq.{take_all, length-take-le, get_or-take, get_or-drop, take-set-lt}
 use mir.Syntax.{w32}
 use mir.Val.{Fits}
 use Rattle.std.proofs.lemmas.List.{take-append-le}
@@ -59,18 +59,16 @@ pub record Stepping (X : Subjobs) (us old kept : List ℕ) (all : ℕ) (os es ls
   pub held : take n es ≡ completions (at X.releases) (at X.executions) (take n os)
   pub same : stepped X us os ls n ≡ stepped X us old kept all
 
-module _ {X : Subjobs} {us os es ls : List ℕ} {n : ℕ} (a : Placing X us os es ls n) where
-  pub stepping_tails : Tails X.releases X.executions (take n os) es
-  stepping_tails =
-      let l = length-take-le n os a.order in
-      record { room = omega (arith, a.ends); few = omega (arith, a.few); each = a.each }
+module _ {X : Subjobs} {us os es ls : List ℕ} (a : Placing X us os es ls (length os)) where
+  whole : take (length os) os ≡ os
+  whole = take_all (length os) os (omega arith)
+
+  pub stepping_tails : Tails X.releases X.executions os es
+  stepping_tails = record { room = a.ends; few = a.few; each = rw whole at a.each }
 
   pub stepping_start :
-      {es' : List ℕ}
-      → take (length (take n os)) es' ≡ completions (at X.releases) (at X.executions) (take n os)
-      → Stepping X us os ls n os es' ls n
-  stepping_start {es'} e =
-      let l = length-take-le n os a.order in
+      {es' : List ℕ} → length es' ≡ length es → take (length os) es' ≡ completions (at X.releases) (at X.executions) os → Stepping X us os ls (length os) os es' ls (length os)
+  stepping_start {es'} l e =
       record {
         asked = record {
           jobs = a.jobs;
@@ -79,12 +77,12 @@ module _ {X : Subjobs} {us os es ls : List ℕ} {n : ℕ} (a : Placing X us os e
           local = a.local;
           size = a.size;
           order = a.order;
-          ends = omega (arith, ap length e, length-take (length (take n os)) es', completions-length (at X.releases) (at X.executions) (take n os));
+          ends = omega (arith, l, a.ends);
           few = a.few;
           each = a.each;
           once = a.once;
         };
-        held = rw l at e;
+        held = rw whole e;
         same = refl;
       }
 

@@ -23,7 +23,13 @@ fn place_in<const N: usize>(fit: &FitSet<'_>, out: &mut [u32]) -> Result<(), Rea
     let mut ends = [0u32; N];
     raise(set.deadlines, set.criticals, &mut bounds);
     in_order(set.releases, &mut order);
-    place_all(set, &bounds, &mut order, &mut ends, &mut local, count)?;
+    place_all(
+        set,
+        &bounds,
+        &mut order[..count],
+        &mut ends[..count],
+        &mut local,
+    )?;
     out.copy_from_slice(&local[..count]);
     Ok(())
 }

@@ -3,7 +3,7 @@
 // `assign` judges the set and makes the report; `fitting` makes the room, raises the bounds, puts the places into release
 // order and has `placing` take the steps. What an order changes stands in one place each: the tie rule in
 // `choosing::behind`, what is taken off a deadline in `bounding::withheld`, how tails are added up in
-// `tailing::completions`, and which sub-jobs are placed in the count and the order that `placing::place_all` is given.
+// `tailing::completions`, and which sub-jobs are placed in the order that `placing::place_all` is given.
 #![tactic(auto)]
 
 ghost use Rattle.subjobs.specs.Sets.{subjobs_of};

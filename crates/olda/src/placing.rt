@@ -36,21 +36,20 @@ fn take_out(order: &mut [u32], ends: &mut [u32], k: usize, execution: u32)
     remove(order, k);
 }
 
-// The steps over the first `count` sub-jobs of `order`, whose places stand there in release order. The deadlines go into
-// `local`, each at its place.
+// The steps over the sub-jobs of `order`, whose places stand there in release order. The deadlines go into `local`, each at
+// its place.
 pub(crate) fn place_all(
     set: &Set<'_>,
     bounds: &[u32],
     order: &mut [u32],
     ends: &mut [u32],
     local: &mut [u32],
-    count: usize,
 ) -> Result<(), Reason>
-    requires { Placing (subjobs_of set.now) bounds.now order.old ends.old local.old count }
-    ensures { Placed (subjobs_of set.now) bounds.now order.old local.old count result local.new }
+    requires { Placing (subjobs_of set.now) bounds.now order.old ends.old local.old (length order.old) }
+    ensures { Placed (subjobs_of set.now) bounds.now order.old local.old (length order.old) result local.new }
 {
-    completions(&order[..count], set.releases, set.executions, ends);
-    for left in (1..=count).rev() {
+    completions(order, set.releases, set.executions, ends);
+    for left in (1..=order.len()).rev() {
         let start = base_tail(&ends[..left]);
         let completion = ends[start];
         let at = start + base_job(&order[start..left], bounds, set.jobs, set.subtasks);
