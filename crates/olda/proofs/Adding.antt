@@ -10,9 +10,9 @@ use lib.ListN.{length, take, drop, set, length-drop, length-map}
 use lib.Seq.{drop-cons, drop-drop, drop-set-lt, take_all, take-set-lt}
 use Rattle.lists.specs.Places.{weight, Every}
 use Rattle.lists.proofs.Mapped.{at_map, take_more, part_within}
-use Rattle.lists.proofs.Members.{every_at, every_drop, every_more}
+use Rattle.lists.proofs.Members.{every_at, every_drop}
 use Rattle.lists.proofs.Sums.{weight-nil, weight-cons}
-use Rattle.olda.specs.Parts.{at, completes, completions, Ordering, Ranged, Tail, Tails}
+use Rattle.olda.specs.Parts.{at, completes, completions, Ranged, Tail, Tails}
 
 weight_most : (rs cs xs : List ℕ) → Every (Ranged rs cs) xs → weight (at cs) xs ≤ 1_000_000 * length xs
 weight_most rs cs [] e = omega (arith, weight-nil (at cs))
@@ -24,24 +24,15 @@ pub tail_most : {rs cs xs : List ℕ} → Tail rs cs xs → completes (at rs) (a
 tail_most {rs} {cs} {xs} t =
     omega (arith, weight_most rs cs xs t.each, (every_at (Ranged rs cs) xs 0 t.some t.each).release, t.few)
 
-pub ordered_asked : {rs cs xs es : List ℕ} → Tails rs cs xs es → Ordering cs xs es
-ordered_asked {rs} {cs} {xs} t =
-    record { room = t.room; known = every_more (Ranged rs cs) (λ p. p < length cs) (λ p r. r.known) xs t.each }
-
-module _ {cs xs es : List ℕ} (o : Ordering cs xs es) {p i : ℕ} (h : i < length xs) (e : p ≡ at xs i) where
-  pub ordered_known : p < length cs
-  ordered_known = rw e (every_at (λ p. p < length cs) xs i h o.known)
-
 -- One more execution is in es.
 pub ordered_more :
-    (cs xs es : List ℕ) {p i : ℕ}
+    (cs xs es : List ℕ) {i : ℕ}
     → i < length xs
     → length xs ≤ length es
-    → p ≡ at xs i
     → take i es ≡ take i (map (at cs) xs)
-    → take (i + 1) (set es i (at cs p)) ≡ take (i + 1) (map (at cs) xs)
-ordered_more cs xs es {i = i} h r e s =
-    rw (e, ← at_map (at cs) xs i h) (take_more es (map (at cs) xs) i (omega arith) (omega (arith, length-map xs (at cs))) s)
+    → take (i + 1) (set es i (at cs (at xs i))) ≡ take (i + 1) (map (at cs) xs)
+ordered_more cs xs es {i} h r s =
+    rw (← at_map (at cs) xs i h) (take_more es (map (at cs) xs) i (omega arith) (omega (arith, length-map xs (at cs))) s)
 
 sum_weight : (f : ℕ → ℕ) (xs : List ℕ) → sum (map f xs) ≡ weight f xs
 sum_weight f xs = sum-map f xs ∙ sym (is_sum_by (weight f) f (weight-nil f) (weight-cons f) xs)
@@ -68,20 +59,14 @@ pub record Summed (rs cs xs es : List ℕ) (i : ℕ) : Type 0 where
   pub done : take i es ≡ take i (completions (at rs) (at cs) xs)
   pub left : drop i (take (length xs) es) ≡ drop i (map (at cs) xs)
 
-pub summed_none : {rs cs xs es : List ℕ} → take (length xs) es ≡ map (at cs) xs → Summed rs cs xs es 0
-summed_none e = record { done = refl; left = e }
-
 module _ {rs cs xs old es : List ℕ} {i : ℕ} (t : Tails rs cs xs old) (s : Summed rs cs xs es i) where
-  module _ {p : ℕ} (h : i < length xs) (e : p ≡ at xs i) where
+  module _ (h : i < length xs) where
     -- The tail that starts at i, as it is handed on.
-    whole : at rs p + sum (take (length xs - i) (drop i es)) ≡ completes (at rs) (at cs) (drop i xs)
+    whole : at rs (at xs i) + sum (take (length xs - i) (drop i es)) ≡ completes (at rs) (at cs) (drop i xs)
     whole =
-        rw (e, part_within es (length xs) i (omega arith), s.left, drop-map (at cs) xs i, sum_weight (at cs) (drop i xs), drop-cons xs i 0 h)
+        rw (part_within es (length xs) i (omega arith), s.left, drop-map (at cs) xs i, sum_weight (at cs) (drop i xs), drop-cons xs i 0 h)
 
-    pub summed_inside : p < length rs
-    summed_inside = rw e (every_at (Ranged rs cs) xs i h t.each).inside
-
-    pub summed_small : at rs p + sum (take (length xs - i) (drop i es)) < 4_294_967_296
+    pub summed_small : at rs (at xs i) + sum (take (length xs - i) (drop i es)) < 4_294_967_296
     summed_small =
         let u : Tail rs cs (drop i xs) =
         record {
@@ -91,7 +76,7 @@ module _ {rs cs xs old es : List ℕ} {i : ℕ} (t : Tails rs cs xs old) (s : Su
         } in
         omega (arith, whole, tail_most u)
 
-    pub summed_more : {m : ℕ} → length es ≡ length old → m ≡ at rs p + sum (take (length xs - i) (drop i es)) → Summed rs cs xs (set es i m) (i + 1)
+    pub summed_more : {m : ℕ} → length es ≡ length old → m ≡ at rs (at xs i) + sum (take (length xs - i) (drop i es)) → Summed rs cs xs (set es i m) (i + 1)
     summed_more {m} r f =
         let c = completions (at rs) (at cs) xs in
         record {

@@ -9,7 +9,7 @@ use borrow.Author.Tests.{lt-ltb, le-ltb}
 use lib.ListN.{length, drop}
 use Rattle.lists.specs.Places.{weight}
 use Rattle.lists.proofs.Members.{in_at}
-use Rattle.lists.proofs.Sums.{weight_in, weight-length}
+use Rattle.lists.proofs.Sums.{weight_in}
 use Rattle.rules.specs.Method.{best, base}
 use Rattle.olda.specs.Parts.{at, rest, lessened, completions, Greatest}
 use Rattle.olda.proofs.Adding.{completions-length}
@@ -17,18 +17,8 @@ use Rattle.olda.proofs.Adding.{completions-length}
 -- The latest of the greatest of the first i numbers stands at k.
 pub record Leading (ns : List ℕ) (k i : ℕ) : Type 0 where
   pub inside : k < i
-  pub within : i ≤ length ns
   pub most : (j : ℕ) → j < i → at ns j ≤ at ns k
   pub latest : (j : ℕ) → k < j → j < i → at ns j < at ns k
-
-pub leading_first : (ns : List ℕ) → 0 < length ns → Leading ns 0 1
-leading_first ns h =
-    record {
-      inside = omega arith;
-      within = omega arith;
-      most = λ j l. let z : j ≡ 0 = omega arith in rw z (omega arith);
-      latest = λ j l q. absurd (omega arith);
-    }
 
 module _ {ns : List ℕ} {k i : ℕ} (l : Leading ns k i) where
   module _ (h : i < length ns) where
@@ -36,7 +26,6 @@ module _ {ns : List ℕ} {k i : ℕ} (l : Leading ns k i) where
     leading_new e =
         record {
           inside = omega arith;
-          within = omega arith;
           most = below_more (λ j. at ns j ≤ at ns i) i (λ j q. omega (arith, e, l.most j q)) (omega arith);
           latest = λ j q w. absurd (omega arith);
         }
@@ -45,27 +34,15 @@ module _ {ns : List ℕ} {k i : ℕ} (l : Leading ns k i) where
     leading_old e =
         record {
           inside = omega (arith, l.inside);
-          within = omega arith;
           most = below_more (λ j. at ns j ≤ at ns k) i l.most (omega arith);
           latest = λ j q w. below_more (λ n. k < n → at ns n < at ns k) i (λ n b v. l.latest n v b) (λ v. e) j w q;
         }
-
-  pub leading_all : length ns ≤ i → Greatest ns k
-  leading_all h =
-      record {
-        inside = omega (arith, l.inside, l.within);
-        most = λ j q. l.most j (omega arith);
-        latest = λ j q w. l.latest j q (omega arith);
-      }
 
 weight-rest : (f : ℕ → ℕ) (xs : List ℕ) (k : ℕ) → k < length xs → weight f (rest k xs) + f (at xs k) ≡ weight f xs
 unfolding weight
 weight-rest f [] k h = absurd (omega arith)
 weight-rest f (x ∷ xs) zero h = omega arith
 weight-rest f (x ∷ xs) (suc k) h = let ih = weight-rest f xs k (omega arith) in omega arith
-
-pub length_rest : (xs : List ℕ) (k : ℕ) → k < length xs → length (rest k xs) + 1 ≡ length xs
-length_rest xs k h = omega (arith, weight-rest (λ i. 1) xs k h, weight-length (rest k xs), weight-length xs)
 
 module _ (r c : ℕ → ℕ) where
   -- A tail's completion holds the execution of each of its sub-jobs.

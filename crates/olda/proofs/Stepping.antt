@@ -5,16 +5,17 @@ use Prim.Native.Nat.{ℕ, suc, ◌+◌, ◌-◌, ◌<◌, ◌≤◌}
 use mathlib.Core.Bool.{not}
 use mathlib.Core.List.{List, ◌++◌}
 use mathlib.Core.Option.{some}
-use mathlib.Core.Path.{◌≡◌, refl, ap, sym, ◌∙◌}
+use mathlib.Core.Path.{◌≡◌, ap, sym, ◌∙◌}
 use lib.IntN.{ℤ, sub_ℕ}
 use native.Mathlib.Omega.{arith}
 use borrow.Author.Tests.{le-leb, lt-leb}
 use lib.Dec.{eqb}
 use lib.ListN.{length, take, drop, set, length-set, length-take, length-drop}
-use lib.Seq.{take_all, length-take-le, get_or-take, get_or-drop, take-set-lt}
+use lib.Seq.{length-take-le, get_or-take, get_or-drop, take-set-lt}
 use mir.Syntax.{w32}
 use mir.Val.{Fits}
 use Rattle.std.proofs.lemmas.List.{take-append-le}
+use Rattle.std.proofs.lemmas.List.Edits.{length-remove}
 use Rattle.lists.specs.Places.{without}
 use Rattle.lists.specs.Order.{reversed, choose}
 use Rattle.lists.proofs.Mapped.{part_within}
@@ -24,9 +25,9 @@ use Rattle.subjobs.specs.Sets.{Subjobs}
 use Rattle.subjobs.specs.declared.Reason.TheVariants.{Late}
 use Rattle.subjobs.specs.Terms.{Terms}
 use Rattle.rules.specs.Method.{stuck, best, base, steps}
-use Rattle.olda.specs.Parts.{at, rest, completes, completions, raise, lower_by, raised, Ranged, Tail, Tails, Greatest, Known, Choosing, Chosen, Leaving, Left, Placing, stepped, Placed}
+use Rattle.olda.specs.Parts.{at, rest, completes, completions, raise, lower_by, raised, Ranged, Tail, Greatest, Known, Choosing, Chosen, Leaving, Left, Placing, stepped, Placed}
 use Rattle.olda.proofs.Adding.{tail_most, completions-length, completions-at}
-use Rattle.olda.proofs.Held.{length_rest, held_enough, held_rest, greatest_tail}
+use Rattle.olda.proofs.Held.{held_enough, held_rest, greatest_tail}
 use Rattle.olda.proofs.Shifts.{without_at}
 
 -- A front of n that lost one of its numbers, in the array that it is the front of.
@@ -58,33 +59,6 @@ pub record Stepping (X : Subjobs) (us old kept : List ℕ) (all : ℕ) (os es ls
   pub asked : Placing X us os es ls n
   pub held : take n es ≡ completions (at X.releases) (at X.executions) (take n os)
   pub same : stepped X us os ls n ≡ stepped X us old kept all
-
-module _ {X : Subjobs} {us os es ls : List ℕ} (a : Placing X us os es ls (length os)) where
-  whole : take (length os) os ≡ os
-  whole = take_all (length os) os (omega arith)
-
-  pub stepping_tails : Tails X.releases X.executions os es
-  stepping_tails = record { room = a.ends; few = a.few; each = rw whole at a.each }
-
-  pub stepping_start :
-      {es' : List ℕ} → length es' ≡ length es → take (length os) es' ≡ completions (at X.releases) (at X.executions) os → Stepping X us os ls (length os) os es' ls (length os)
-  stepping_start {es'} l e =
-      record {
-        asked = record {
-          jobs = a.jobs;
-          subtasks = a.subtasks;
-          bounds = a.bounds;
-          local = a.local;
-          size = a.size;
-          order = a.order;
-          ends = omega (arith, l, a.ends);
-          few = a.few;
-          each = a.each;
-          once = a.once;
-        };
-        held = rw whole e;
-        same = refl;
-      }
 
 module _ {X : Subjobs} {us old kept : List ℕ} {all : ℕ} {os es ls : List ℕ} {n : ℕ} (s : Stepping X us old kept all os es ls n) where
   long : length (take n os) ≡ n
@@ -220,7 +194,7 @@ module _ {X : Subjobs} {us old kept : List ℕ} {all : ℕ} {os es ls : List ℕ
           let xs = take n os in
           let p = at os (k + j) in
           let i : k + j < length xs = omega (arith, job_inside, long) in
-          let one = length_rest xs (k + j) i in
+          let one = length-remove xs (k + j) i in
           let order = shorter os' (drop n os) (rest (k + j) xs) (length xs) n long (omega (arith, one, long)) l.order in
           let ends =
           l.ends ∙ held_rest (at X.releases) (at X.executions) xs (take n es) (k + j) (at X.executions p) s.held i (ap (at X.executions) stands)

@@ -15,7 +15,8 @@
 --   reported T n d      == the report of n sub-jobs with the local deadlines d
 --
 -- The records are named by what is done with the lists: what is asked before it, and what is told after it.
-use Rattle.std.specs.Prelude.{Option, Err, Some, None, ℕ, suc, ◌+◌, ◌-◌, ◌<◌, ◌≤◌, Bool, List, [], ◌∷◌, ◌++◌, ◌≡◌, length, get_or, map, take, drop}
+use Rattle.std.specs.Prelude.{Option, Err, Some, None, ℕ, ◌+◌, ◌-◌, ◌<◌, ◌≤◌, Bool, List, [], ◌∷◌, ◌++◌, ◌≡◌, length, get_or, map, take, drop}
+use Rattle.std.specs.List.{remove}
 use Rattle.std.proofs.Math.Option.{some}
 use Rattle.lists.specs.Places.{places, weight, Every, Nodup}
 use Rattle.lists.specs.Order.{by, lex, reversed, choose, given}
@@ -31,7 +32,7 @@ abbrev pub at : List ℕ → ℕ → ℕ
 at xs i = get_or xs i 0
 
 abbrev pub rest : ℕ → List ℕ → List ℕ
-rest k xs = take k xs ++ drop (suc k) xs
+rest k xs = remove xs k
 
 abbrev pub lessened : ℕ → ℕ → List ℕ → List ℕ
 lessened k v ns = map (λ n. n - v) (take k ns) ++ drop k ns

@@ -1,24 +1,16 @@
 -- `tailing::completions` meets its contract: the first i tails have their completions.
-use Rattle.std.proofs.Common.{rules, refl}
+use Rattle.std.proofs.Common.{rules}
 use Rattle.std.proofs.Math.ListN.{length-set}
-use Rattle.olda.proofs.Adding.{ordered_asked, summed_none, summed_small, summed_more, summed_all}
+use Rattle.olda.proofs.Adding.{summed_small, summed_more, summed_all}
 use Rattle.olda.proofs.tailing.completions.Goals as goal
-
-pub executions_in_order-requires : goal.executions_in_order-requires
-executions_in_order-requires c =
-    ordered_asked c.requires
-
-pub loop-i-init : goal.loop-i-init
-loop-i-init c =
-    (summed_none c.executions_in_order.ensures, search rules)
 
 pub completion-requires : goal.completion-requires
 completion-requires c =
-    summed_small c.requires c.loop-i.invariant.0 c.loop-i-test.true refl
+    summed_small c.requires c.loop-i.invariant.0 c.loop-i-test.true
 
 pub loop-i-preserved : goal.loop-i-preserved
 loop-i-preserved c =
-    (summed_more c.requires c.loop-i.invariant.0 c.loop-i-test.true refl (search rules) c.completion.ensures, simp length-set (search rules))
+    (summed_more c.requires c.loop-i.invariant.0 c.loop-i-test.true (search rules) c.completion.ensures, simp length-set (search rules))
 
 pub returns : goal.returns
 returns c =
