@@ -37,8 +37,8 @@ fn take_out(order: &mut [u32], ends: &mut [u32], k: usize, execution: u32)
     remove(order, k);
 }
 
-// The steps over the sub-jobs of `order`, whose places stand there in release order. The deadlines go into `local`, each at
-// its place.
+// The steps over the sub-jobs of `order`, whose places stand there in release order. The deadlines go into `local`, each
+// at its place.
 pub(crate) fn place_all(
     set: &Set<'_>,
     bounds: &[u32],

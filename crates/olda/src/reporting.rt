@@ -20,7 +20,8 @@ impl<'a> Accepted<'a> {
     // How far a sub-job reaches: its local deadline plus what is withheld. The slack is what its deadline leaves of that.
     fn reach(&self, i: usize) -> u64
         requires { i < length self.now.local.now }
-        ensures { (result ≡ (limits self.now.deadlines.now self.now.criticals.now).withheld i + at self.now.local.now i) × (result < 8589934592) }
+        ensures { (result ≡ (limits self.now.deadlines.now self.now.criticals.now).withheld i + at self.now.local.now i)
+            × (result < 8589934592) }
     {
         u64::from(withheld(self.criticals, i)) + u64::from(self.local[i])
     }
@@ -49,7 +50,9 @@ impl<'a> Accepted<'a> {
 
     // The report of the set.
     pub(crate) fn report(&self) -> Option<Report>
-        ensures { result ≡ reported (limits self.now.deadlines.now self.now.criticals.now) (length self.now.local.now) (at self.now.local.now) }
+        ensures { result
+            ≡ reported (limits self.now.deadlines.now self.now.criticals.now) (length self.now.local.now)
+            (at self.now.local.now) }
     {
         if self.local.is_empty() {
             return None;
