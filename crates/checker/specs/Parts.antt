@@ -3,13 +3,11 @@
 --   six_in rs cs dls zs ds i == number 6 at place i, of the lists of releases, executions, deadlines, critical times and
 --                              proposed deadlines
 --   Alike rs cs dls zs ds   == these lists are of one length
---   Ready s ds fs           == the set and its proposed deadlines pass 1 to 4, and fs has room for the finishes
-use Rattle.std.specs.Prelude.{ℕ, ◌≤◌, List, [], ◌≡◌, length, get_or}
+use Rattle.std.specs.Prelude.{ℕ, List, [], ◌≡◌, length, get_or}
 use Rattle.subjobs.specs.declared.Judgement.{Judgement}
-use Rattle.subjobs.specs.declared.Judgement.TheVariants.{Passed}
-use Rattle.subjobs.specs.Sets.{Subjobs, subjobs}
+use Rattle.subjobs.specs.Sets.{subjobs}
 use Rattle.subjobs.specs.Terms.{terms}
-use Rattle.checker.specs.Answers.{judged, six_of}
+use Rattle.checker.specs.Answers.{six_of}
 
 abbrev pub six_in : (rs cs dls zs ds : List ℕ) → ℕ → Judgement
 six_in rs cs dls zs ds = six_of (terms (subjobs [] [] rs cs dls zs)) (λ i. get_or ds i 0)
@@ -19,7 +17,3 @@ pub record Alike (rs cs dls zs ds : List ℕ) : Type 0 where
   pub deadlines : length dls ≡ length rs
   pub criticals : length zs ≡ length rs
   pub proposed : length ds ≡ length rs
-
-pub record Ready (s : Subjobs) (ds fs : List ℕ) : Type 0 where
-  pub passed : judged s ds ≡ Passed
-  pub room : 128 ≤ length fs

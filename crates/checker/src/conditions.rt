@@ -1,9 +1,9 @@
 // Conditions (6) and (7) at the smallest place that fails them.
-ghost use Rattle.std.specs.Prelude.{◌+◌, ◌≡◌, leb, length, get_or};
+ghost use Rattle.std.specs.Prelude.{◌+◌, ◌&&◌, ◌≡◌, leb, length, get_or};
 ghost use Rattle.subjobs.specs.Sets.{subjobs};
 ghost use Rattle.subjobs.specs.Judging.{first_refusal};
-ghost use Rattle.checker.specs.Answers.{six_at, seven_at, seven};
-ghost use Rattle.checker.specs.Parts.{six_in, Alike, Ready};
+ghost use Rattle.checker.specs.Answers.{judged, seven_at, seven};
+ghost use Rattle.checker.specs.Parts.{six_in, Alike};
 
 use edf::Totals;
 use subjobs::{Judgement, Reason};
@@ -12,25 +12,14 @@ use subjobs::{Judgement, Reason};
 fn at_most(a: u32, b: u32, x: u32) -> bool
     ensures { result ≡ leb (a + b) x }
 {
-    (a as u64) + (b as u64) <= (x as u64)
+    u64::from(a) + u64::from(b) <= u64::from(x)
 }
 
 // (6) of one sub-job with the proposed deadline d. The upper bound may be negative: d + critical time is held to the deadline.
-fn six_at(
-    place: usize,
-    release: u32,
-    execution: u32,
-    deadline: u32,
-    critical: u32,
-    d: u32,
-) -> Judgement
-    ensures { result ≡ six_at place release execution deadline critical d }
+fn meets(release: u32, execution: u32, deadline: u32, critical: u32, d: u32) -> bool
+    ensures { result ≡ (leb (release + execution) d && leb (d + critical) deadline) }
 {
-    if at_most(release, execution, d) & at_most(d, critical, deadline) {
-        Judgement::Passed
-    } else {
-        Judgement::Refused(Reason::Unmet { place })
-    }
+    at_most(release, execution, d) & at_most(d, critical, deadline)
 }
 
 // The smallest place that fails (6).
@@ -47,19 +36,15 @@ pub(crate) fn six(
         proposed.now)
         (length releases.now) }
 {
-    let mut i = 0;
-    while i < releases.len() {
-        let found = six_at(
-            i,
-            releases[i],
-            executions[i],
-            deadlines[i],
-            criticals[i],
-            proposed[i],
-        );
-        i += 1;
-        if let Judgement::Refused(reason) = found {
-            return Judgement::Refused(reason);
+    for place in 0..releases.len() {
+        if !meets(
+            releases[place],
+            executions[place],
+            deadlines[place],
+            criticals[place],
+            proposed[place],
+        ) {
+            return Judgement::Refused(Reason::Unmet { place });
         }
     }
     Judgement::Passed
@@ -72,17 +57,15 @@ fn late(finishes: &[u32], proposed: &[u32]) -> Judgement
         (λ i. seven_at i (get_or finishes.now i 0) (get_or proposed.now i 0))
         (length finishes.now) }
 {
-    let mut i = 0;
-    while i < finishes.len() {
-        if proposed[i] < finishes[i] {
-            return Judgement::Refused(Reason::Missed { place: i });
+    for place in 0..finishes.len() {
+        if proposed[place] < finishes[place] {
+            return Judgement::Refused(Reason::Missed { place });
         }
-        i += 1;
     }
     Judgement::Passed
 }
 
-// The smallest place that the core finishes late when every ask equals execution. The finishes go into `finishes`.
+// The smallest place that the core finishes late when every ask equals execution, of a set that passes 1 to 4.
 pub(crate) fn seven(
     jobs: &[u32],
     subtasks: &[u32],
@@ -91,29 +74,22 @@ pub(crate) fn seven(
     deadlines: &[u32],
     criticals: &[u32],
     proposed: &[u32],
-    finishes: &mut [u32],
 ) -> Judgement
-    requires { Ready
+    requires { judged
         (subjobs jobs.now subtasks.now releases.now executions.now deadlines.now criticals.now)
-        proposed.now finishes.old }
+        proposed.now
+        ≡ Judgement.Passed }
     ensures { result ≡ seven
         (subjobs jobs.now subtasks.now releases.now executions.now
         deadlines.now criticals.now)
         proposed.now }
 {
-    let n = jobs.len();
+    let mut room = [0u32; 128];
+    let finishes = &mut room[..jobs.len()];
     let none = Totals { busy: 0, idle: 0 };
     edf::simulate(
-        jobs,
-        subtasks,
-        releases,
-        executions,
-        deadlines,
-        criticals,
-        proposed,
-        executions,
-        &mut finishes[..n],
+        jobs, subtasks, releases, executions, deadlines, criticals, proposed, executions, finishes,
         none,
     );
-    late(&finishes[..n], proposed)
+    late(finishes, proposed)
 }

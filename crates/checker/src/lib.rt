@@ -41,16 +41,8 @@ pub fn check(
     if let Judgement::Refused(reason) = met {
         return Answer::Refused(reason);
     }
-    let mut finishes = [0u32; 128];
     let kept = conditions::seven(
-        jobs,
-        subtasks,
-        releases,
-        executions,
-        deadlines,
-        criticals,
-        proposed,
-        &mut finishes,
+        jobs, subtasks, releases, executions, deadlines, criticals, proposed,
     );
     match kept {
         Judgement::Refused(reason) => Answer::Refused(reason),

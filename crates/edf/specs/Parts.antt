@@ -1,89 +1,65 @@
--- What the parts of the program ask of the lists and say of a run that was served out. No public contract and no promise
--- speaks of these words.
+-- What the parts of the program say of the work that they are lent and of a run that was served out. No public contract and
+-- no promise speaks of these words.
 --
---   at xs i              == the number at a place of a lent list
---   owed_in cs qs i       == what place i is owed, of the lists of executions and asks
---   active_in .. t i      == place i can be served in tick t
---   finish_in .. i        == its finish, if the last ticks served end at fs
---   end_in cs qs fs       == the end of such a run
---   Lists                == the lists that a run reads
---   set_in X, load_in X    == the set that they are, and what the core reads of it
---   Fits X               == they are of one length, with at most 128 places, and in their ranges
---   RanOut X e           == e is what the core has when all is served
---   read_off rs cs qs e   == the run that is read off then
+--   set_of w, load_of w  == the set whose work w is, and what the core reads of it
+--   size_of w            == its places
+--   chosen n p           == the place p of n, nobody if p is n
+--   released r           == the moment r, none if r is 0
+--   finish_in L fs i     == the finish of place i, if the last ticks served end at fs
+--   end_in L fs          == the end of such a run
+--   AtStart e            == e is a core that has served nothing
+--   RanOut w e           == e is what the core has when all is served
 --   settled r t          == the answer to a run and the record of totals after it
 --   written r t old      == the list of finishes after it
---   Settling ..          == what is asked before a run is read off
---   Settles ..           == the answer and the list of finishes after it
-use Rattle.std.specs.Prelude.{ℕ, ◌-◌, ◌≤◌, ◌<◌, min, Bool, cond, ◌&&◌, List, [], map, ◌≡◌, leb, ltb, eqb, length, get_or}
-use Rattle.lists.specs.Places.{places, filter, greatest}
+--   Settles ..           == the answer and the list of finishes after the run of w
+use Rattle.std.specs.Prelude.{ℕ, cond, List, [], ◌≡◌, ltb, eqb, length, get_or, replicate, Option, Some, None}
+use Rattle.lists.specs.Places.{filter, greatest}
 use Rattle.subjobs.specs.declared.Reason.TheVariants as reason
 use Rattle.subjobs.specs.Sets.{Subjobs, subjobs}
 use Rattle.ticks.specs.Core.{Load, after}
-use Rattle.ticks.specs.Runs.{Run, horizon, load}
+use Rattle.ticks.specs.Runs.{Run, horizon, load, run_of}
 use Rattle.edf.specs.declared.Totals.{Totals}
 use Rattle.edf.specs.declared.Simulated.{Simulated}
 use Rattle.edf.specs.declared.Answer.TheVariants.{Ran, Refused}
-use Rattle.edf.specs.declared.runs.Ended.{Ended}
+use Rattle.edf.specs.declared.runs.Core.{Core}
+use Rattle.edf.specs.declared.work.Work.{Work}
 use Rattle.edf.specs.Answers.{added, above, if_ran}
 
-abbrev pub at : List ℕ → ℕ → ℕ
-at xs i = get_or xs i 0
+-- A run reads neither the end-to-end deadlines nor the critical times.
+abbrev pub set_of : Work → Subjobs
+set_of w = subjobs w.jobs.now w.subtasks.now w.releases.now w.executions.now [] []
 
-abbrev pub owed_in : (cs qs : List ℕ) → ℕ → ℕ
-owed_in cs qs i = min (at qs i) (at cs i)
+abbrev pub load_of : Work → Load
+load_of w = load (set_of w) w.local.now w.asks.now
 
-abbrev pub active_in : (rs cs qs served : List ℕ) → (t i : ℕ) → Bool
-active_in rs cs qs v t i = leb (at rs i) t && ltb (at v i) (owed_in cs qs i)
+abbrev pub size_of : Work → ℕ
+size_of w = length w.jobs.now
+
+-- the place that `to_serve` tells by its number
+abbrev pub chosen : (n p : ℕ) → Option ℕ
+chosen n p = cond (ltb p n) (Some p) None
+
+-- the moment that `next_release` tells
+abbrev pub released : ℕ → Option ℕ
+released r = cond (eqb r 0) None (Some r)
 
 -- the end of the last tick served to it, or its release if it is owed nothing
-abbrev pub finish_in : (rs cs qs fs : List ℕ) → ℕ → ℕ
-finish_in rs cs qs fs i = cond (eqb (owed_in cs qs i) 0) (at rs i) (at fs i)
+abbrev pub finish_in : Load → List ℕ → ℕ → ℕ
+finish_in L fs i = cond (eqb (L.owed i) 0) (L.release i) (get_or fs i 0)
 
 -- the greatest finish among those owed something
-abbrev pub end_in : (cs qs fs : List ℕ) → ℕ
-end_in cs qs fs = greatest (at fs) (filter (λ i. ltb 0 (owed_in cs qs i)) (places (length cs)))
+abbrev pub end_in : Load → List ℕ → ℕ
+end_in L fs = greatest (λ i. get_or fs i 0) (filter (λ i. ltb 0 (L.owed i)) L.on)
 
-pub record Lists : Type 0 where
-  pub jobs : List ℕ
-  pub subtasks : List ℕ
-  pub releases : List ℕ
-  pub executions : List ℕ
-  pub local : List ℕ
-  pub asks : List ℕ
-
-abbrev pub lists : List ℕ → List ℕ → List ℕ → List ℕ → List ℕ → List ℕ → Lists
-lists js ks rs cs ds qs = record { jobs = js; subtasks = ks; releases = rs; executions = cs; local = ds; asks = qs }
-
--- A run reads neither the end-to-end deadlines nor the critical times.
-abbrev pub set_in : Lists → Subjobs
-set_in X = subjobs X.jobs X.subtasks X.releases X.executions [] []
-
-abbrev pub load_in : Lists → Load
-load_in X = load (set_in X) X.local X.asks
-
-pub record Fits (X : Lists) : Type 0 where
-  pub subtasks : length X.subtasks ≡ length X.jobs
-  pub releases : length X.releases ≡ length X.jobs
-  pub executions : length X.executions ≡ length X.jobs
-  pub local : length X.local ≡ length X.jobs
-  pub asks : length X.asks ≡ length X.jobs
-  pub few : length X.jobs ≤ 128
-  pub ranges : (i : ℕ) → i < length X.jobs → (at X.releases i ≤ 1_000_000_000) × (at X.executions i ≤ 1_000_000)
+pub record AtStart (e : Core) : Type 0 where
+  pub served : e.served ≡ replicate 128 0
+  pub finish : e.finish ≡ replicate 128 0
+  pub busy : e.busy ≡ 0
 
 -- At the horizon all is served.
-pub record RanOut (X : Lists) (e : Ended) : Type 0 where
-  pub finish : e.finish ≡ (after (load_in X) (horizon (load_in X))).finish
-  pub busy : e.busy ≡ (after (load_in X) (horizon (load_in X))).busy
-
-abbrev pub read_off : (rs cs qs : List ℕ) → Ended → Run
-read_off rs cs qs e =
-    record {
-      finishes = map (finish_in rs cs qs e.finish) (places (length cs));
-      end = end_in cs qs e.finish;
-      busy = e.busy;
-      idle = end_in cs qs e.finish - e.busy;
-    }
+pub record RanOut (w : Work) (e : Core) : Type 0 where
+  pub finish : e.finish ≡ (after (load_of w) (horizon (load_of w))).finish
+  pub busy : e.busy ≡ (after (load_of w) (horizon (load_of w))).busy
 
 abbrev pub settled : Run → Totals → Simulated
 settled r t =
@@ -94,15 +70,6 @@ settled r t =
 abbrev pub written : Run → Totals → List ℕ → List ℕ
 written r t old = if_ran (settled r t).answer r.finishes old
 
--- Lists as long as the finishes, and no more busy ticks than there are before the end.
-pub record Settling (rs cs qs : List ℕ) (e : Ended) (n : ℕ) : Type 0 where
-  pub releases : length rs ≡ n
-  pub executions : length cs ≡ n
-  pub asks : length qs ≡ n
-  pub few : n ≤ 128
-  pub counters : length e.finish ≡ 128
-  pub busy : e.busy ≤ end_in cs qs e.finish
-
-pub record Settles (rs cs qs : List ℕ) (e : Ended) (old : List ℕ) (t : Totals) (r : Simulated) (new : List ℕ) : Type 0 where
-  pub gives : r ≡ settled (read_off rs cs qs e) t
-  pub writes : new ≡ written (read_off rs cs qs e) t old
+pub record Settles (w : Work) (old : List ℕ) (t : Totals) (r : Simulated) (new : List ℕ) : Type 0 where
+  pub gives : r ≡ settled (run_of (load_of w)) t
+  pub writes : new ≡ written (run_of (load_of w)) t old

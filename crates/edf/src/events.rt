@@ -1,116 +1,80 @@
 // The parts of an event: who is to be served, when somebody is released next, and how long that holds.
-ghost use Rattle.std.specs.Prelude.{◌<◌, min, ◌≡◌, cond, ltb, eqb, length};
-ghost use Rattle.lists.specs.Places.{places};
-ghost use Rattle.ticks.specs.Runs.{sooner};
+ghost use Rattle.std.specs.Prelude.{◌<◌, ◌≡◌, IfSome, cond, unwrap_or};
+ghost use Rattle.ticks.specs.Core.{active};
 ghost use Rattle.ticks.specs.Events.{to_serve, next_release, stretch};
-ghost use Rattle.edf.specs.Parts.{at, active_in, lists, load_in, Fits};
+ghost use Rattle.edf.specs.Parts.{load_of, size_of, chosen, released};
 
-// A sub-job is owed the smaller of its ask and its execution.
-pub(crate) fn owed(execution: u32, ask: u32) -> u32
-    ensures { result ≡ min ask execution }
-{
-    if ask < execution { ask } else { execution }
-}
+use crate::work::Work;
 
-// Whether a place is released at or before tick t and still owed something.
-fn active(
-    releases: &[u32],
-    executions: &[u32],
-    asks: &[u32],
-    served: &[u32; 128],
-    t: u32,
-    place: usize,
-) -> bool
-    requires { (place < length releases.now) × (place < length executions.now) × (place < length asks.now)
-        × (place < 128) }
-    ensures { result ≡ active_in releases.now executions.now asks.now
-        served.now t place }
-{
-    let owed = owed(executions[place], asks[place]);
-    (releases[place] <= t) & (served[place] < owed)
-}
+impl Work<'_> {
+    // Whether a place is released at or before tick t and still owed something.
+    fn active(&self, served: &[u32; 128], t: u32, place: usize) -> bool
+        requires { place < size_of self.now }
+        ensures { result ≡ active (load_of self.now) t served.now place }
+    {
+        (self.releases[place] <= t) & (served[place] < self.owed(place))
+    }
 
-// Whether the place i is served before the place j: smaller deadline, then smaller job, then smaller subtask.
-fn sooner(deadlines: &[u32], jobs: &[u32], subtasks: &[u32], i: usize, j: usize) -> bool
-    requires { (length deadlines.now ≡ length jobs.now) × (length subtasks.now ≡ length jobs.now)
-        × (i < length jobs.now) × (j < length jobs.now) }
-    ensures { result ≡ sooner (at deadlines.now) (at jobs.now) (at subtasks.now) i j }
-{
-    (deadlines[i] < deadlines[j])
-        | (!(deadlines[j] < deadlines[i])
-            & ((jobs[i] < jobs[j]) | (!(jobs[j] < jobs[i]) & (subtasks[i] < subtasks[j]))))
-}
+    // Whether the place i is served before the place j: smaller deadline, then smaller job, then smaller subtask.
+    fn sooner(&self, i: usize, j: usize) -> bool
+        requires { (i < size_of self.now) × (j < size_of self.now) }
+        ensures { result ≡ (load_of self.now).before i j }
+    {
+        (self.local[i], self.jobs[i], self.subtasks[i])
+            < (self.local[j], self.jobs[j], self.subtasks[j])
+    }
 
-// The place to serve in tick t, of those active the one that comes first; as many as there are places if nobody is active.
-// A heap may stand here one day: callers know it by `to_serve` alone.
-pub(crate) fn to_serve(
-    jobs: &[u32],
-    subtasks: &[u32],
-    releases: &[u32],
-    executions: &[u32],
-    local: &[u32],
-    asks: &[u32],
-    served: &[u32; 128],
-    t: u32,
-) -> usize
-    requires { Fits (lists jobs.now subtasks.now releases.now executions.now local.now asks.now) }
-    ensures { result ≡ to_serve
-        (load_in (lists jobs.now subtasks.now releases.now executions.now
-        local.now asks.now))
-        (length jobs.now) t served.now }
-{
-    let n = jobs.len();
-    let mut best = n;
-    let mut i = 0;
-    while i < n {
-        let here = i;
-        i += 1;
-        if active(releases, executions, asks, served, t, here) {
-            if best == n {
-                best = here;
-            } else {
-                if sooner(local, jobs, subtasks, here, best) {
-                    best = here;
-                }
-            }
+    // The one of two places that is served first.
+    fn first(&self, best: usize, place: usize) -> usize
+        requires { (best < size_of self.now) × (place < size_of self.now) }
+        ensures { result ≡ cond ((load_of self.now).before place best) place best }
+    {
+        if self.sooner(place, best) {
+            place
+        } else {
+            best
         }
     }
-    best
-}
 
-// The sooner of a release after moment t and what was found so far, where 0 stands for nothing found.
-fn nearer(next: u32, release: u32, t: u32) -> u32
-    ensures { result ≡ cond (ltb t release) (cond (eqb next 0) release (min release next)) next }
-{
-    if release <= t {
-        return next;
+    // The place to serve in tick t: of those active the one that comes first.
+    // A heap may stand here one day: callers know it by `to_serve` alone.
+    pub(crate) fn to_serve(&self, served: &[u32; 128], t: u32) -> Option<usize>
+        ensures { result
+            ≡ chosen (size_of self.now) (to_serve (load_of self.now) (size_of self.now) t served.now) }
+    {
+        let mut best = None;
+        for place in 0..self.jobs.len() {
+            if self.active(served, t, place) {
+                best = match best {
+                    Some(b) => Some(self.first(b, place)),
+                    None => Some(place),
+                };
+            }
+        }
+        best
     }
-    if next == 0 {
-        return release;
-    }
-    if release < next { release } else { next }
-}
 
-// The next release after moment t, 0 if there is none.
-pub(crate) fn next_release(releases: &[u32], t: u32) -> u32
-    ensures { result ≡ next_release (at releases.now) (places (length releases.now)) t }
-{
-    let mut next = 0;
-    let mut i = releases.len();
-    while 0 < i {
-        i -= 1;
-        next = nearer(next, releases[i], t);
+    // The next release after moment t.
+    pub(crate) fn next_release(&self, t: u32) -> Option<u32>
+        ensures next { result
+            ≡ released (next_release (load_of self.now).release (load_of self.now).on t) }
+        ensures later { IfSome result (λ release. t < release) }
+    {
+        self.releases
+            .iter()
+            .copied()
+            .filter(|release| t < *release)
+            .min()
     }
-    next
 }
 
 // How long the pick of moment t stays: until nothing is left to serve to it or somebody is released.
-pub(crate) fn stretch(left: u32, t: u32, next: u32) -> u32
-    ensures { result ≡ stretch left t next }
+pub(crate) fn stretch(left: u32, t: u32, next: Option<u32>) -> u32
+    requires { IfSome next (λ release. t < release) }
+    ensures { result ≡ stretch left t (unwrap_or next 0) }
 {
-    if next <= t {
-        return left;
+    match next {
+        Some(release) => left.min(release - t),
+        None => left,
     }
-    let room = next - t;
-    if left < room { left } else { room }
 }

@@ -9,18 +9,21 @@ ghost use Rattle.edf.specs.Answers.{Simulates, Runs};
 
 mod events;
 mod runs;
+mod work;
 
+use runs::Core;
 use subjobs::{Judgement, Reason};
+use work::Work;
 
 // The ticks of runs so far, served and not.
-#[derive(Drop)]
+#[derive(Clone, Copy, Debug, PartialEq, Eq)]
 pub struct Totals {
     pub busy: u64,
     pub idle: u64,
 }
 
 // The end of a run.
-#[derive(Drop)]
+#[derive(Clone, Copy, Debug, PartialEq, Eq)]
 pub struct Report {
     pub end: u32,
 }
@@ -69,8 +72,21 @@ pub fn simulate(
             totals,
         },
         Judgement::Passed => {
-            let core = runs::run_out(jobs, subtasks, releases, executions, local, asks);
-            runs::settle(releases, executions, asks, core, finishes, totals)
+            let work = Work {
+                jobs,
+                subtasks,
+                releases,
+                executions,
+                local,
+                asks,
+            };
+            let mut core = Core {
+                served: [0; 128],
+                finish: [0; 128],
+                busy: 0,
+            };
+            work.run_out(&mut core);
+            work.settle(&core, finishes, totals)
         }
     }
 }
@@ -94,12 +110,8 @@ pub fn run(
         local.now asks.now finishes.old totals.old
         result totals.new finishes.new }
 {
-    let before = Totals {
-        busy: totals.busy,
-        idle: totals.idle,
-    };
     let simulated = simulate(
-        jobs, subtasks, releases, executions, deadlines, criticals, local, asks, finishes, before,
+        jobs, subtasks, releases, executions, deadlines, criticals, local, asks, finishes, *totals,
     );
     *totals = simulated.totals;
     simulated.answer

@@ -1,113 +1,102 @@
 // A run, from event to event, and what is read off the core at its end.
-ghost use Rattle.std.specs.Prelude.{◌+◌, ◌≤◌, max, cond, map, ◌≡◌, ltb, eqb, length};
-ghost use Rattle.lists.specs.Places.{places};
-ghost use Rattle.edf.specs.Parts.{finish_in, end_in, lists, Fits, RanOut, Settling, Settles};
+ghost use Rattle.std.specs.Prelude.{◌+◌, ◌<◌, map, ◌≡◌, ltb, length, get_or};
+ghost use Rattle.edf.specs.Parts.{load_of, size_of, finish_in, end_in, AtStart, RanOut, Settles};
 
-use crate::events::{next_release, owed, stretch, to_serve};
+use crate::events::stretch;
+use crate::work::Work;
 use crate::{Answer, Report, Simulated, Totals};
 use subjobs::Reason;
 
-// The core when all is served: the end of the last tick served to each place, and the busy ticks.
+// The core: of each place the ticks served to it and the end of the last of them, and the busy ticks.
 #[derive(Drop)]
-pub(crate) struct Ended {
+pub(crate) struct Core {
+    pub served: [u32; 128],
     pub finish: [u32; 128],
     pub busy: u32,
 }
 
-// A run of single ticks, in jumps: somebody is served until nothing is left for it or somebody is released, or nobody
-// can be served until the next release.
-pub(crate) fn run_out(
-    jobs: &[u32],
-    subtasks: &[u32],
-    releases: &[u32],
-    executions: &[u32],
-    local: &[u32],
-    asks: &[u32],
-) -> Ended
-    requires { Fits (lists jobs.now subtasks.now releases.now executions.now local.now asks.now) }
-    ensures { RanOut
-        (lists jobs.now subtasks.now releases.now executions.now
-        local.now asks.now)
-        result }
-{
-    let n = jobs.len();
-    let mut served = [0u32; 128];
-    let mut finish = [0u32; 128];
-    let mut busy: u32 = 0;
-    let mut t: u32 = 0;
-    loop {
-        let p = to_serve(
-            jobs, subtasks, releases, executions, local, asks, &served, t,
-        );
-        let next = next_release(releases, t);
-        if p < n {
-            let owed = owed(executions[p], asks[p]);
-            let before = served[p];
-            let ticks = stretch(owed - before, t, next);
-            served[p] = before + ticks;
-            busy += ticks;
-            t += ticks;
-            finish[p] = t;
-        } else {
-            if next == 0 {
-                return Ended { finish, busy };
+impl Work<'_> {
+    // A run of single ticks, in jumps: somebody is served until nothing is left for it or somebody is released, or nobody
+    // can be served until the next release. The caller has the core, so that no array is copied.
+    pub(crate) fn run_out(&self, core: &mut Core)
+        requires { AtStart core.old }
+        ensures { RanOut self.now core.new }
+    {
+        let mut t: u32 = 0;
+        loop {
+            match (self.to_serve(&core.served, t), self.next_release(t)) {
+                (Some(place), next) => {
+                    let before = core.served[place];
+                    let ticks = stretch(self.owed(place) - before, t, next);
+                    core.served[place] = before + ticks;
+                    core.busy += ticks;
+                    t += ticks;
+                    core.finish[place] = t;
+                }
+                (None, Some(release)) => t = release,
+                (None, None) => return,
             }
-            t = next;
         }
     }
-}
 
-// The later of an end found so far and the finish of a place, if the place is owed something.
-fn later(end: u32, finish: u32, owed: u32) -> u32
-    ensures { result ≡ cond (ltb 0 owed) (max finish end) end }
-{
-    if owed == 0 {
-        return end;
+    // The end of the run: the greatest finish among those owed something, 0 if there are none.
+    fn end(&self, finish: &[u32; 128]) -> u32
+        ensures { result ≡ end_in (load_of self.now) finish.now }
+    {
+        let mut end: u32 = 0;
+        for place in 0..self.jobs.len() {
+            if 0 < self.owed(place) {
+                end = end.max(finish[place]);
+            }
+        }
+        end
     }
-    if end < finish { finish } else { end }
-}
 
-// The end of the run: the greatest finish among those owed something, 0 if there are none.
-pub(crate) fn end_of(executions: &[u32], asks: &[u32], finish: &[u32; 128]) -> u32
-    requires { (length asks.now ≡ length executions.now) × (length executions.now ≤ 128) }
-    ensures { result ≡ end_in executions.now asks.now finish.now }
-{
-    let mut end = 0;
-    let mut i = executions.len();
-    while 0 < i {
-        i -= 1;
-        let owed = owed(executions[i], asks[i]);
-        end = later(end, finish[i], owed);
+    // The end of the last tick served to a place, or its release if it is owed nothing.
+    fn finish_of(&self, place: usize, finish: &[u32; 128]) -> u32
+        requires { place < size_of self.now }
+        ensures { result ≡ finish_in (load_of self.now) finish.now place }
+    {
+        if self.owed(place) == 0 {
+            self.releases[place]
+        } else {
+            finish[place]
+        }
     }
-    end
-}
 
-// The end of the last tick served to a place, or its release if it is owed nothing.
-fn finish_of(release: u32, owed: u32, finish: u32) -> u32
-    ensures { result ≡ cond (eqb owed 0) release finish }
-{
-    if owed == 0 { release } else { finish }
-}
+    // The finish moments, written to the result list.
+    fn write_finishes(&self, finish: &[u32; 128], finishes: &mut [u32])
+        requires { length finishes.old ≡ size_of self.now }
+        ensures { finishes.new ≡ map (finish_in (load_of self.now) finish.now) (load_of self.now).on }
+    {
+        for (place, moment) in finishes.iter_mut().enumerate() {
+            *moment = self.finish_of(place, finish);
+        }
+    }
 
-// The finish moments, written to the result list.
-fn write_finishes(
-    releases: &[u32],
-    executions: &[u32],
-    asks: &[u32],
-    finish: &[u32; 128],
-    finishes: &mut [u32],
-)
-    requires { (length releases.now ≡ length finishes.old) × (length executions.now ≡ length finishes.old)
-        × (length asks.now ≡ length finishes.old) × (length finishes.old ≤ 128) }
-    ensures { finishes.new
-        ≡ map (finish_in releases.now executions.now asks.now finish.now)
-        (places (length finishes.old)) }
-{
-    let mut i = 0;
-    while i < finishes.len() {
-        let owed = owed(executions[i], asks[i]);
-        finishes[i] = finish_of(releases[i], owed, finish[i]);
-        i += 1;
+    // The answer to a run that was served out, and the totals after it: number 8, or all that is read off the core.
+    pub(crate) fn settle(&self, core: &Core, finishes: &mut [u32], totals: Totals) -> Simulated
+        requires ran { RanOut self.now core.now }
+        requires room { length finishes.old ≡ size_of self.now }
+        ensures { Settles self.now finishes.old totals result finishes.new }
+    {
+        let end = self.end(&core.finish);
+        let idle = end - core.busy;
+        if above(totals.busy, core.busy) | above(totals.idle, idle) {
+            return Simulated {
+                answer: Answer::Refused(Reason::Totals),
+                totals,
+            };
+        }
+        self.write_finishes(&core.finish, finishes);
+        let after = Totals {
+            busy: totals.busy + u64::from(core.busy),
+            idle: totals.idle + u64::from(idle),
+        };
+        Simulated {
+            answer: Answer::Ran(Report { end }),
+            totals: after,
+        }
     }
 }
 
@@ -115,42 +104,5 @@ fn write_finishes(
 fn above(total: u64, more: u32) -> bool
     ensures { result ≡ ltb 1_000_000_000_000_000_000 (total + more) }
 {
-    if 1_000_000_000_000_000_000 < total {
-        return true;
-    }
-    1_000_000_000_000_000_000 - total < more as u64
-}
-
-// The answer to a run that was served out, and the totals after it: number 8, or all that is read off the core.
-pub(crate) fn settle(
-    releases: &[u32],
-    executions: &[u32],
-    asks: &[u32],
-    core: Ended,
-    finishes: &mut [u32],
-    totals: Totals,
-) -> Simulated
-    requires { Settling releases.now executions.now asks.now core (length finishes.old) }
-    ensures { Settles releases.now executions.now asks.now core
-        finishes.old totals result finishes.new }
-{
-    let finish = core.finish;
-    let busy = core.busy;
-    let end = end_of(executions, asks, &finish);
-    let idle = end - busy;
-    if above(totals.busy, busy) | above(totals.idle, idle) {
-        return Simulated {
-            answer: Answer::Refused(Reason::Totals),
-            totals,
-        };
-    }
-    write_finishes(releases, executions, asks, &finish, finishes);
-    let after = Totals {
-        busy: totals.busy + busy as u64,
-        idle: totals.idle + idle as u64,
-    };
-    Simulated {
-        answer: Answer::Ran(Report { end }),
-        totals: after,
-    }
+    1_000_000_000_000_000_000 < total.saturating_add(u64::from(more))
 }

@@ -1,5 +1,4 @@
 -- `check` meets its contract: each return is the first of the three judgements that refuses, or none does.
-use borrow.Author.Rules.{rules}
 use mathlib.Core.List.{List}
 use mathlib.Core.Path.{◌≡◌, sym, ◌∙◌}
 use Prim.Native.Nat.{ℕ}
@@ -42,7 +41,7 @@ returns-in-Refused-met c =
     rw (p, met _ c.args.proposed.now p _ c.six-met.ensures, c.in-Refused-met.is)
 
 pub seven-kept-requires : goal.seven-kept-requires
-seven-kept-requires c = record { passed = sym c.judge-judged.ensures ∙ c.in_default.is; room = search rules }
+seven-kept-requires c = sym c.judge-judged.ensures ∙ c.in_default.is
 
 pub returns-in-Refused-kept : goal.returns-in-Refused-kept
 unfolding answer
