@@ -6,25 +6,24 @@
 --   six, seven    == refusals 6 and 7 at the smallest such place
 --   answer s ds   == the answer for the set s and the proposed deadlines ds
 --   values a      == RULES' number and values of an answer: 0, or the reason's
-use Rattle.std.specs.Prelude.{ℕ, ◌+◌, cond, ◌&&◌, List, [], ◌∷◌, ◌≡◌, leb, eqb, ℤ, pos, length, get_or}
+use Rattle.std.specs.Prelude.{Err, ℕ, ◌+◌, cond, ◌&&◌, List, ◌≡◌, leb, eqb, ℤ, length, get_or}
 use Rattle.subjobs.specs.declared.Reason.TheVariants.{Unmet, Missed}
-use Rattle.subjobs.specs.declared.Judgement.{Judgement}
-use Rattle.subjobs.specs.declared.Judgement.TheVariants as judgement
-use Rattle.subjobs.specs.Reasons as reasons
 use Rattle.subjobs.specs.Sets.{Subjobs, size}
 use Rattle.subjobs.specs.Terms.{Terms, terms}
 use Rattle.subjobs.specs.Judging as judging
-use Rattle.subjobs.specs.Judging.{or_else, first_refusal, if_passed}
+use Rattle.subjobs.specs.Judging.{Judgement, passed, or_else, first_refusal}
 use Rattle.ticks.specs.Runs.{run}
-use Rattle.checker.specs.declared.Answer.{Answer}
-use Rattle.checker.specs.declared.Answer.TheVariants.{Accepted, Refused}
+
+-- Acceptance carries no further number.
+abbrev pub Answer : Type 0
+Answer = Judgement
 
 abbrev pub judged : Subjobs → List ℕ → Judgement
 judged s ds = judging.judgement s (eqb (length ds) (size s))
 
 -- 6: release + execution ≤ d ≤ upper bound fails
 abbrev pub six_at : (place release execution deadline withheld d : ℕ) → Judgement
-six_at p r c dl z d = cond (leb (r + c) d && leb (d + z) dl) judgement.Passed (judgement.Refused (Unmet p))
+six_at p r c dl z d = cond (leb (r + c) d && leb (d + z) dl) passed (Err (Unmet p))
 
 abbrev pub six_of : Terms → (ℕ → ℕ) → ℕ → Judgement
 six_of T d i = six_at i (T.release i) (T.execution i) (T.deadline i) (T.withheld i) (d i)
@@ -34,17 +33,16 @@ six s ds = first_refusal (six_of (terms s) (λ i. get_or ds i 0)) (size s)
 
 -- 7: with every ask equal to execution some finish is after its deadline
 abbrev pub seven_at : (place finish d : ℕ) → Judgement
-seven_at p f d = cond (leb f d) judgement.Passed (judgement.Refused (Missed p))
+seven_at p f d = cond (leb f d) passed (Err (Missed p))
 
 abbrev pub seven : Subjobs → List ℕ → Judgement
 seven s ds = first_refusal (λ i. seven_at i (get_or (run s ds s.executions).finishes i 0) (get_or ds i 0)) (size s)
 
 unfoldable pub answer : Subjobs → List ℕ → Answer
-answer s ds = if_passed (or_else (judged s ds) (or_else (six s ds) (seven s ds))) Accepted Refused
+answer s ds = or_else (judged s ds) (or_else (six s ds) (seven s ds))
 
 abbrev pub values : Answer → List ℤ
-values Accepted = pos 0 ∷ []
-values (Refused r) = reasons.values r
+values = judging.values
 
 -- What `check` is held to.
 abbrev pub Checks : Subjobs → List ℕ → Answer → Type 0

@@ -1,12 +1,12 @@
-// Conditions (6) and (7) at the smallest place that fails them.
-ghost use Rattle.std.specs.Prelude.{◌+◌, ◌&&◌, ◌≡◌, leb, length, get_or};
-ghost use Rattle.subjobs.specs.Sets.{subjobs};
+// Conditions (6) and (7) at the smallest place that fails them, of a set that passes refusals 1 to 4.
+ghost use Rattle.std.specs.Prelude.{◌+◌, ◌<◌, ◌&&◌, ◌≡◌, leb, length, get_or};
+ghost use Rattle.subjobs.specs.Sets.{subjobs_of, size};
 ghost use Rattle.subjobs.specs.Judging.{first_refusal};
-ghost use Rattle.checker.specs.Answers.{judged, seven_at, seven};
-ghost use Rattle.checker.specs.Parts.{six_in, Alike};
+ghost use Rattle.checker.specs.Answers.{six, seven_at, seven};
+ghost use Rattle.checker.specs.Parts.{meets};
 
 use edf::Totals;
-use subjobs::{Judgement, Reason};
+use subjobs::{FitSet, Reason};
 
 // Whether a + b ≤ x, the sum taken in 64 bits.
 fn at_most(a: u32, b: u32, x: u32) -> bool
@@ -16,42 +16,30 @@ fn at_most(a: u32, b: u32, x: u32) -> bool
 }
 
 // (6) of one sub-job with the proposed deadline d. The upper bound may be negative: d + critical time is held to the deadline.
-fn meets(release: u32, execution: u32, deadline: u32, critical: u32, d: u32) -> bool
-    ensures { result ≡ (leb (release + execution) d && leb (d + critical) deadline) }
+fn meets(fit: &FitSet<'_>, place: usize, d: u32) -> bool
+    requires { place < size (subjobs_of fit.now.set) }
+    ensures { result ≡ meets (subjobs_of fit.now.set) place d }
 {
-    at_most(release, execution, d) & at_most(d, critical, deadline)
+    let set = &fit.set;
+    at_most(set.releases[place], set.executions[place], d)
+        & at_most(d, set.criticals[place], set.deadlines[place])
 }
 
 // The smallest place that fails (6).
-pub(crate) fn six(
-    releases: &[u32],
-    executions: &[u32],
-    deadlines: &[u32],
-    criticals: &[u32],
-    proposed: &[u32],
-) -> Judgement
-    requires { Alike releases.now executions.now deadlines.now criticals.now proposed.now }
-    ensures { result ≡ first_refusal
-        (six_in releases.now executions.now deadlines.now criticals.now
-        proposed.now)
-        (length releases.now) }
+pub(crate) fn six(fit: &FitSet<'_>, proposed: &[u32]) -> Result<(), Reason>
+    requires { length proposed.now ≡ size (subjobs_of fit.now.set) }
+    ensures { result ≡ six (subjobs_of fit.now.set) proposed.now }
 {
-    for place in 0..releases.len() {
-        if !meets(
-            releases[place],
-            executions[place],
-            deadlines[place],
-            criticals[place],
-            proposed[place],
-        ) {
-            return Judgement::Refused(Reason::Unmet { place });
+    for place in 0..proposed.len() {
+        if !meets(fit, place, proposed[place]) {
+            return Err(Reason::Unmet { place });
         }
     }
-    Judgement::Passed
+    Ok(())
 }
 
 // The smallest place that finishes after its proposed deadline.
-fn late(finishes: &[u32], proposed: &[u32]) -> Judgement
+fn late(finishes: &[u32], proposed: &[u32]) -> Result<(), Reason>
     requires { length proposed.now ≡ length finishes.now }
     ensures { result ≡ first_refusal
         (λ i. seven_at i (get_or finishes.now i 0) (get_or proposed.now i 0))
@@ -59,37 +47,21 @@ fn late(finishes: &[u32], proposed: &[u32]) -> Judgement
 {
     for place in 0..finishes.len() {
         if proposed[place] < finishes[place] {
-            return Judgement::Refused(Reason::Missed { place });
+            return Err(Reason::Missed { place });
         }
     }
-    Judgement::Passed
+    Ok(())
 }
 
-// The smallest place that the core finishes late when every ask equals execution, of a set that passes 1 to 4.
-pub(crate) fn seven(
-    jobs: &[u32],
-    subtasks: &[u32],
-    releases: &[u32],
-    executions: &[u32],
-    deadlines: &[u32],
-    criticals: &[u32],
-    proposed: &[u32],
-) -> Judgement
-    requires { judged
-        (subjobs jobs.now subtasks.now releases.now executions.now deadlines.now criticals.now)
-        proposed.now
-        ≡ Judgement.Passed }
-    ensures { result ≡ seven
-        (subjobs jobs.now subtasks.now releases.now executions.now
-        deadlines.now criticals.now)
-        proposed.now }
+// The smallest place that the core finishes late when every ask equals execution.
+pub(crate) fn seven(fit: &FitSet<'_>, proposed: &[u32]) -> Result<(), Reason>
+    requires { length proposed.now ≡ size (subjobs_of fit.now.set) }
+    ensures { result ≡ seven (subjobs_of fit.now.set) proposed.now }
 {
+    let set = &fit.set;
     let mut room = [0u32; 128];
-    let finishes = &mut room[..jobs.len()];
+    let finishes = &mut room[..set.jobs.len()];
     let none = Totals { busy: 0, idle: 0 };
-    edf::simulate(
-        jobs, subtasks, releases, executions, deadlines, criticals, proposed, executions, finishes,
-        none,
-    );
+    edf::simulate(set, proposed, set.executions, finishes, none);
     late(finishes, proposed)
 }

@@ -1,4 +1,5 @@
 -- A run from totals of nothing: number 8 cannot come, so a set that passes 1 to 4 has its finishes written.
+use Rattle.std.specs.Prelude.{Ok}
 use Prim.Native.Nat.{ℕ, ◌+◌, ◌≤◌}
 use mathlib.Core.Bool.{true, false}
 use mathlib.Core.List.{List}
@@ -6,7 +7,6 @@ use mathlib.Core.Path.{◌≡◌}
 use native.Mathlib.Omega.{arith}
 use borrow.Author.Tests.{le-ltb, eq-eqb}
 use lib.ListN.{length}
-use Rattle.subjobs.specs.declared.Judgement.TheVariants.{Passed}
 use Rattle.subjobs.specs.Sets.{Subjobs, size}
 use Rattle.subjobs.specs.Judging.{judgement}
 use Rattle.subjobs.proofs.Fit.{fit}
@@ -16,7 +16,7 @@ use Rattle.ticks.proofs.Ends.{end-horizon, all_ticks}
 use Rattle.ticks.proofs.Turns.{horizon_fits}
 use Rattle.edf.specs.Answers.{added, above, further_lists, answer, finishes}
 
-module _ (s : Subjobs) (ds asks : List ℕ) (passed : judgement s true ≡ Passed) where
+module _ (s : Subjobs) (ds asks : List ℕ) (passed : judgement s true ≡ Ok tt) where
   -- All ticks of the run lie before its horizon.
   few_ticks : (run s ds asks).busy + (run s ds asks).idle ≤ 1_128_000_000
   unfolding run_of

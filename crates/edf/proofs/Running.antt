@@ -17,7 +17,8 @@ use Rattle.ticks.proofs.Service.{Counters, counters}
 use Rattle.ticks.proofs.Turns.{Reached, events_left, reached_busy, served_for, waited, over, horizon_fits, to_serve_lem}
 use Rattle.edf.specs.declared.runs.Core.{Core}
 use Rattle.edf.specs.declared.work.Work.{Work}
-use Rattle.edf.specs.Parts.{set_of, load_of, size_of, chosen, released, RanOut}
+use Rattle.subjobs.specs.Sets.{subjobs_of}
+use Rattle.edf.specs.Parts.{load_of, size_of, chosen, released, RanOut}
 
 chosen_some : (n k p : ℕ) → Some p ≡ chosen n k → (p < n) × (p ≡ k)
 chosen_some n k p e = test (ltb k n) (λ l. let z : Some p ≡ Some k = e ∙ rw l in let y : p ≡ k = cc in (omega (tests, y), y)) (λ l. let z : Some p ≡ None = e ∙ rw l in cc)
@@ -60,7 +61,7 @@ module _
     picks_none e = (picks _ refl).1 (chosen_none _ _ (sym e ∙ serves))
 
     counted : Counters (load_of w)
-    counted = counters (set_of w) w.local.now w.asks.now w.fits.few
+    counted = counters (subjobs_of w.set) w.local.now w.asks.now w.fit.few
 
     -- The one to serve is owed what it has not got,
     pub owing : (p o : ℕ) → q ≡ Some p → o ≡ (load_of w).owed p → get_or v p 0 ≤ o
@@ -72,7 +73,7 @@ module _
         → Served w v f b t p m
     serves_on p o m h e l =
         let s = served_for (load_of w) v f b t R counted p (picks_some p h) in
-        let fits = horizon_fits (set_of w) w.local.now w.asks.now w.fits.few w.fits.ranges in
+        let fits = horizon_fits (subjobs_of w.set) w.local.now w.asks.now w.fit.few (λ i h. ((w.fit.ranges i h).release, (w.fit.ranges i h).execution)) in
         rw (l, e, ← next_is)
         (record {
           busy = omega (arith, s.1.soon, reached_busy (load_of w) _ _ _ _ s.1);

@@ -1,6 +1,7 @@
 -- The answer to a run that was served out: number 8, or the run with its ticks added to the totals.
 --
 --   read_off L e  == the run that is read off the core e of L
+use Rattle.std.specs.Prelude.{Ok, Err}
 use Prim.Native.Nat.{ℕ, ◌+◌, ◌-◌, ◌≤◌}
 use mathlib.Core.Bool.{Bool, true, false}
 use mathlib.Core.List.{List, [], ◌∷◌, map, Memᴰ}
@@ -14,10 +15,8 @@ use Rattle.lists.proofs.Members.{filter_in}
 use Rattle.lists.proofs.Cases.{test, tests, both}
 use Rattle.subjobs.specs.declared.Reason.{Reason}
 use Rattle.subjobs.specs.declared.Reason.TheVariants as reason
-use Rattle.subjobs.specs.declared.Judgement.TheVariants as verdict
-use Rattle.subjobs.specs.Sets.{Subjobs, size}
+use Rattle.subjobs.specs.Sets.{Subjobs, subjobs_of, size}
 use Rattle.subjobs.specs.Judging.{judgement}
-use Rattle.subjobs.specs.Faults.{Fit}
 use Rattle.ticks.specs.Core.{Load, after, ended}
 use Rattle.ticks.specs.Runs.{Run, horizon, finish, end, busy_ticks, idle_ticks, run_of, run}
 use Rattle.ticks.proofs.Service.{Counters, counters}
@@ -26,12 +25,10 @@ use Rattle.ticks.proofs.Ends.{finish-owed, busy_owed, all_ticks}
 use Rattle.ticks.proofs.Ticks.{run_ticks}
 use Rattle.edf.specs.declared.Totals.{Totals}
 use Rattle.edf.specs.declared.Simulated.{Simulated}
-use Rattle.edf.specs.declared.Answer.TheVariants.{Ran, Refused}
 use Rattle.edf.specs.declared.runs.Core.{Core}
 use Rattle.edf.specs.declared.work.Work.{Work}
 use Rattle.edf.specs.Answers.{added, above, further_lists, answer, totals, finishes, Simulates}
-use Rattle.edf.specs.Fits.{Fits}
-use Rattle.edf.specs.Parts.{set_of, load_of, finish_in, end_in, RanOut, settled, written, Settles}
+use Rattle.edf.specs.Parts.{load_of, finish_in, end_in, RanOut, settled, written, Settles}
 
 -- What is read off the core when all is served is the run.
 abbrev read_off : Load → Core → Run
@@ -69,7 +66,7 @@ module _ (w : Work) (e : Core) (R : RanOut w e) where
   unfolding run_of finish
   run_is =
       let L = load_of w in
-      let K = counters (set_of w) w.local.now w.asks.now w.fits.few in
+      let K = counters (subjobs_of w.set) w.local.now w.asks.now w.fit.few in
       rw (R.finish, R.busy, end_is L K, busy_is L K, idle_is L K)
 
   pub busy_first : e.busy ≤ end_in (load_of w) e.finish
@@ -78,7 +75,7 @@ module _ (w : Work) (e : Core) (R : RanOut w e) where
         arith,
         ap (λ (r : Run). r.end) run_is,
         ap (λ (r : Run). r.busy) run_is,
-        run_ticks (set_of w) w.local.now w.asks.now,
+        run_ticks (subjobs_of w.set) w.local.now w.asks.now,
       )
 
   -- The totals after it, with m for its end,
@@ -87,10 +84,10 @@ module _ (w : Work) (e : Core) (R : RanOut w e) where
     after_it = record { busy = t.busy + e.busy; idle = t.idle + (m - e.busy) }
 
     -- are left alone by a refusal, as the list is,
-    pub settled_refused : above after_it ≡ true → Settles w old t (record { answer = Refused reason.Totals; totals = t }) old
+    pub settled_refused : above after_it ≡ true → Settles w old t (record { answer = Err reason.Totals; totals = t }) old
     settled_refused a =
         let b : above (added (read_off (load_of w) e) t) ≡ true = rw is at a in
-        let g : record { answer = Refused reason.Totals; totals = t } ≡ settled (read_off (load_of w) e) t = rw b in
+        let g : record { answer = Err reason.Totals; totals = t } ≡ settled (read_off (load_of w) e) t = rw b in
         let k : old ≡ written (read_off (load_of w) e) t old = rw b in
         record { gives = g ∙ ap (λ (r : Run). settled r t) run_is; writes = k ∙ ap (λ (r : Run). written r t old) run_is }
 
@@ -98,23 +95,23 @@ module _ (w : Work) (e : Core) (R : RanOut w e) where
     pub settled_ran :
         above after_it ≡ false
         → (new : List ℕ) → new ≡ map (finish_in (load_of w) e.finish) (load_of w).on
-        → Settles w old t (record { answer = Ran (record { end = m }); totals = after_it }) new
+        → Settles w old t (record { answer = Ok (record { end = m }); totals = after_it }) new
     settled_ran a new q =
         let b : above (added (read_off (load_of w) e) t) ≡ false = rw is at a in
-        let g : record { answer = Ran (record { end = m }); totals = after_it } ≡ settled (read_off (load_of w) e) t = rw (is, b) in
+        let g : record { answer = Ok (record { end = m }); totals = after_it } ≡ settled (read_off (load_of w) e) t = rw (is, b) in
         let k : new ≡ written (read_off (load_of w) e) t old = rw b q in
         record { gives = g ∙ ap (λ (r : Run). settled r t) run_is; writes = k ∙ ap (λ (r : Run). written r t old) run_is }
 
 -- The simulator's answer by what refusals 1 to 4 say.
 module _ (s : Subjobs) (ds asks : List ℕ) (t : Totals) (fs : List ℕ) where
   pub simulated_refused :
-      (why : Reason) → judgement s (further_lists s ds asks (length fs)) ≡ verdict.Refused why
-      → Simulates s ds asks fs t (record { answer = Refused why; totals = t }) fs
+      (why : Reason) → judgement s (further_lists s ds asks (length fs)) ≡ Err why
+      → Simulates s ds asks fs t (record { answer = Err why; totals = t }) fs
   unfolding answer totals finishes
   simulated_refused why e = record { gives = rw e; writes = rw e }
 
   pub simulated_ran :
-      judgement s (further_lists s ds asks (length fs)) ≡ verdict.Passed
+      judgement s (further_lists s ds asks (length fs)) ≡ Ok tt
       → (got : Simulated) (new : List ℕ)
       → got ≡ settled (run s ds asks) t → new ≡ written (run s ds asks) t fs
       → Simulates s ds asks fs t got new
@@ -124,22 +121,9 @@ module _ (s : Subjobs) (ds asks : List ℕ) (t : Totals) (fs : List ℕ) where
       (λ a. record { gives = g ∙ rw (p, a); writes = w ∙ rw (p, a) })
       (λ a. record { gives = g ∙ rw (p, a); writes = w ∙ rw (p, a) })
 
--- What a set that passes refusals 1 to 4 gives a run.
-module _ (s : Subjobs) (ds asks fs : List ℕ) (F : Fit s (further_lists s ds asks (length fs))) where
-  pub further : (length ds ≡ size s) × (length asks ≡ size s) × (length fs ≡ size s)
-  further =
-      let a = both F.lengths.further in
-      let b = both a.0 in
-      (eqb-true _ _ b.0, eqb-true _ _ b.1, eqb-true _ _ a.1)
-
-  pub fits : Fits s.jobs s.subtasks s.releases s.executions ds asks
-  fits =
-      record {
-        subtasks = F.lengths.subtasks;
-        releases = F.lengths.releases;
-        executions = F.lengths.executions;
-        local = further.0;
-        asks = further.1;
-        few = F.few;
-        ranges = λ i h. ((F.ranges i h).release, (F.ranges i h).execution);
-      }
+-- The further lists are as long as the six.
+pub further : (s : Subjobs) (ds asks : List ℕ) (n : ℕ) → further_lists s ds asks n ≡ true → (length ds ≡ size s) × (length asks ≡ size s) × (n ≡ size s)
+further s ds asks n h =
+    let a = both h in
+    let b = both a.0 in
+    (eqb-true _ _ b.0, eqb-true _ _ b.1, eqb-true _ _ a.1)

@@ -1,21 +1,26 @@
 -- What the simulator answers, and what the finishes and the totals hold afterwards.
 --
+--   Answer                   == what the simulator answers
 --   added r t                == the totals t with the ticks of the run r
 --   above t                  == a total stands above what a record may hold
 --   answer s ds asks n t     == the answer, for a list of n finishes and a record of totals t
 --   values a                 == RULES' number and values of an answer: 0 and the end, or the reason's
 --   totals s ds asks n t     == what the record of totals holds afterwards
 --   finishes s ds asks fs t  == what the list of finishes holds afterwards, if it held fs before
-use Rattle.std.specs.Prelude.{ℕ, ◌+◌, Bool, cond, ◌&&◌, ◌||◌, List, [], ◌∷◌, ◌≡◌, ltb, eqb, ℤ, pos, length}
+use Rattle.std.specs.Prelude.{Result, Ok, Err, ℕ, ◌+◌, Bool, cond, ◌&&◌, ◌||◌, List, [], ◌∷◌, ◌≡◌, ltb, eqb, ℤ, pos, length}
+use Rattle.subjobs.specs.declared.Reason.{Reason}
 use Rattle.subjobs.specs.declared.Reason.TheVariants as reason
 use Rattle.subjobs.specs.Reasons as reasons
 use Rattle.subjobs.specs.Sets.{Subjobs, size}
 use Rattle.subjobs.specs.Judging.{judgement, if_passed}
 use Rattle.edf.specs.declared.Totals.{Totals}
 use Rattle.edf.specs.declared.Simulated.{Simulated}
-use Rattle.edf.specs.declared.Answer.{Answer}
-use Rattle.edf.specs.declared.Answer.TheVariants.{Ran, Refused}
+use Rattle.edf.specs.declared.Report.{Report}
 use Rattle.ticks.specs.Runs.{Run, run}
+
+-- The report, or the reason.
+abbrev pub Answer : Type 0
+Answer = Result Report Reason
 
 -- Each run adds its own ticks to the record of totals.
 abbrev pub added : Run → Totals → Totals
@@ -32,13 +37,13 @@ further_lists s ds asks n = eqb (length ds) (size s) && eqb (length asks) (size 
 unfoldable pub answer : Subjobs → List ℕ → List ℕ → ℕ → Totals → Answer
 answer s ds asks n t =
     if_passed (judgement s (further_lists s ds asks n))
-    (cond (above (added (run s ds asks) t)) (Refused reason.Totals) (Ran (record { end = (run s ds asks).end })))
-    Refused
+    (cond (above (added (run s ds asks) t)) (Err reason.Totals) (Ok (record { end = (run s ds asks).end })))
+    Err
 
 -- After a refusal the result list and the totals hold what they held before.
 abbrev pub if_ran : {A : Type 0} → Answer → A → A → A
-if_ran (Ran r) new old = new
-if_ran (Refused r) new old = old
+if_ran (Ok r) new old = new
+if_ran (Err r) new old = old
 
 unfoldable pub totals : Subjobs → List ℕ → List ℕ → ℕ → Totals → Totals
 totals s ds asks n t = if_ran (answer s ds asks n t) (added (run s ds asks) t) t
@@ -51,8 +56,8 @@ abbrev pub simulated : Subjobs → List ℕ → List ℕ → ℕ → Totals → 
 simulated s ds asks n t = record { answer = answer s ds asks n t; totals = totals s ds asks n t }
 
 abbrev pub values : Answer → List ℤ
-values (Ran r) = pos 0 ∷ pos r.end ∷ []
-values (Refused r) = reasons.values r
+values (Ok r) = pos 0 ∷ pos r.end ∷ []
+values (Err r) = reasons.values r
 
 -- What `simulate` is held to: what it gives, and what the list of finishes holds afterwards.
 pub record Simulates (s : Subjobs) (ds asks fs : List ℕ) (t : Totals) (r : Simulated) (new : List ℕ) : Type 0 where

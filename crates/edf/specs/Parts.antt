@@ -1,7 +1,7 @@
 -- What the parts of the program say of the work that they are lent and of a run that was served out. No public contract and
 -- no promise speaks of these words.
 --
---   set_of w, load_of w  == the set whose work w is, and what the core reads of it
+--   load_of w            == what the core reads of the work w
 --   size_of w            == its places
 --   chosen n p           == the place p of n, nobody if p is n
 --   released r           == the moment r, none if r is 0
@@ -12,28 +12,23 @@
 --   settled r t          == the answer to a run and the record of totals after it
 --   written r t old      == the list of finishes after it
 --   Settles ..           == the answer and the list of finishes after the run of w
-use Rattle.std.specs.Prelude.{ℕ, cond, List, [], ◌≡◌, ltb, eqb, length, get_or, replicate, Option, Some, None}
+use Rattle.std.specs.Prelude.{Ok, Err, ℕ, cond, List, ◌≡◌, ltb, eqb, get_or, replicate, Option, Some, None}
 use Rattle.lists.specs.Places.{filter, greatest}
 use Rattle.subjobs.specs.declared.Reason.TheVariants as reason
-use Rattle.subjobs.specs.Sets.{Subjobs, subjobs}
+use Rattle.subjobs.specs.Sets.{subjobs_of, size}
 use Rattle.ticks.specs.Core.{Load, after}
 use Rattle.ticks.specs.Runs.{Run, horizon, load, run_of}
 use Rattle.edf.specs.declared.Totals.{Totals}
 use Rattle.edf.specs.declared.Simulated.{Simulated}
-use Rattle.edf.specs.declared.Answer.TheVariants.{Ran, Refused}
 use Rattle.edf.specs.declared.runs.Core.{Core}
 use Rattle.edf.specs.declared.work.Work.{Work}
 use Rattle.edf.specs.Answers.{added, above, if_ran}
 
--- A run reads neither the end-to-end deadlines nor the critical times.
-abbrev pub set_of : Work → Subjobs
-set_of w = subjobs w.jobs.now w.subtasks.now w.releases.now w.executions.now [] []
-
 abbrev pub load_of : Work → Load
-load_of w = load (set_of w) w.local.now w.asks.now
+load_of w = load (subjobs_of w.set) w.local.now w.asks.now
 
 abbrev pub size_of : Work → ℕ
-size_of w = length w.jobs.now
+size_of w = size (subjobs_of w.set)
 
 -- the place that `to_serve` tells by its number
 abbrev pub chosen : (n p : ℕ) → Option ℕ
@@ -63,8 +58,8 @@ pub record RanOut (w : Work) (e : Core) : Type 0 where
 
 abbrev pub settled : Run → Totals → Simulated
 settled r t =
-    cond (above (added r t)) (record { answer = Refused reason.Totals; totals = t })
-    (record { answer = Ran (record { end = r.end }); totals = added r t })
+    cond (above (added r t)) (record { answer = Err reason.Totals; totals = t })
+    (record { answer = Ok (record { end = r.end }); totals = added r t })
 
 -- what the list of finishes holds after it, if it held old before
 abbrev pub written : Run → Totals → List ℕ → List ℕ

@@ -4,7 +4,7 @@
 // to event (Events there). What its parts are held to is said in specs/Parts.antt.
 #![tactic(auto)]
 
-ghost use Rattle.subjobs.specs.Sets.{subjobs};
+ghost use Rattle.subjobs.specs.Sets.{subjobs_of};
 ghost use Rattle.edf.specs.Answers.{Simulates, Runs};
 
 mod events;
@@ -12,7 +12,7 @@ mod runs;
 mod work;
 
 use runs::Core;
-use subjobs::{Judgement, Reason};
+use subjobs::{Reason, Set};
 use work::Work;
 
 // The ticks of runs so far, served and not.
@@ -28,55 +28,34 @@ pub struct Report {
     pub end: u32,
 }
 
-// What the simulator says of a run.
-#[derive(Drop)]
-pub enum Answer {
-    Ran(Report),
-    Refused(Reason),
-}
-
 // The answer, and what the record of totals holds afterwards.
-#[derive(Drop)]
+#[derive(Clone, Copy, Debug, PartialEq, Eq)]
 pub struct Simulated {
-    pub answer: Answer,
+    pub answer: Result<Report, Reason>,
     pub totals: Totals,
 }
 
 // A run of a set with these local deadlines and asks. On acceptance the finishes are written and the totals that come back
 // hold the run's ticks too; on a refusal list and totals are as they were.
 pub fn simulate(
-    jobs: &[u32],
-    subtasks: &[u32],
-    releases: &[u32],
-    executions: &[u32],
-    deadlines: &[u32],
-    criticals: &[u32],
+    set: &Set<'_>,
     local: &[u32],
     asks: &[u32],
     finishes: &mut [u32],
     totals: Totals,
 ) -> Simulated
-    ensures { Simulates
-        (subjobs jobs.now subtasks.now releases.now executions.now
-        deadlines.now criticals.now)
-        local.now asks.now finishes.old totals result finishes.new }
+    ensures { Simulates (subjobs_of set.now) local.now asks.now finishes.old totals result finishes.new }
 {
-    let n = jobs.len();
+    let n = set.jobs.len();
     let others = (local.len() == n) & (asks.len() == n) & (finishes.len() == n);
-    let judged = subjobs::judge(
-        jobs, subtasks, releases, executions, deadlines, criticals, others,
-    );
-    match judged {
-        Judgement::Refused(reason) => Simulated {
-            answer: Answer::Refused(reason),
+    match set.judge(others) {
+        Err(reason) => Simulated {
+            answer: Err(reason),
             totals,
         },
-        Judgement::Passed => {
+        Ok(fit) => {
             let work = Work {
-                jobs,
-                subtasks,
-                releases,
-                executions,
+                set: fit.set,
                 local,
                 asks,
             };
@@ -93,26 +72,15 @@ pub fn simulate(
 
 // The same with the record of totals lent: it holds what comes back, whether the run was accepted or refused.
 pub fn run(
-    jobs: &[u32],
-    subtasks: &[u32],
-    releases: &[u32],
-    executions: &[u32],
-    deadlines: &[u32],
-    criticals: &[u32],
+    set: &Set<'_>,
     local: &[u32],
     asks: &[u32],
     finishes: &mut [u32],
     totals: &mut Totals,
-) -> Answer
-    ensures { Runs
-        (subjobs jobs.now subtasks.now releases.now executions.now
-        deadlines.now criticals.now)
-        local.now asks.now finishes.old totals.old
-        result totals.new finishes.new }
+) -> Result<Report, Reason>
+    ensures { Runs (subjobs_of set.now) local.now asks.now finishes.old totals.old result totals.new finishes.new }
 {
-    let simulated = simulate(
-        jobs, subtasks, releases, executions, deadlines, criticals, local, asks, finishes, *totals,
-    );
+    let simulated = simulate(set, local, asks, finishes, *totals);
     *totals = simulated.totals;
     simulated.answer
 }

@@ -4,7 +4,7 @@ ghost use Rattle.edf.specs.Parts.{load_of, size_of, finish_in, end_in, AtStart, 
 
 use crate::events::stretch;
 use crate::work::Work;
-use crate::{Answer, Report, Simulated, Totals};
+use crate::{Report, Simulated, Totals};
 use subjobs::Reason;
 
 // The core: of each place the ticks served to it and the end of the last of them, and the busy ticks.
@@ -44,7 +44,7 @@ impl Work<'_> {
         ensures { result ≡ end_in (load_of self.now) finish.now }
     {
         let mut end: u32 = 0;
-        for place in 0..self.jobs.len() {
+        for place in 0..self.set.jobs.len() {
             if 0 < self.owed(place) {
                 end = end.max(finish[place]);
             }
@@ -58,7 +58,7 @@ impl Work<'_> {
         ensures { result ≡ finish_in (load_of self.now) finish.now place }
     {
         if self.owed(place) == 0 {
-            self.releases[place]
+            self.set.releases[place]
         } else {
             finish[place]
         }
@@ -84,7 +84,7 @@ impl Work<'_> {
         let idle = end - core.busy;
         if above(totals.busy, core.busy) | above(totals.idle, idle) {
             return Simulated {
-                answer: Answer::Refused(Reason::Totals),
+                answer: Err(Reason::Totals),
                 totals,
             };
         }
@@ -94,7 +94,7 @@ impl Work<'_> {
             idle: totals.idle + u64::from(idle),
         };
         Simulated {
-            answer: Answer::Ran(Report { end }),
+            answer: Ok(Report { end }),
             totals: after,
         }
     }

@@ -1,16 +1,19 @@
 // The work of a run: what the simulator reads of a set that is accepted.
-ghost use Rattle.edf.specs.Fits.{Fits};
+ghost use Rattle.std.specs.Prelude.{◌≡◌, length, true};
+ghost use Rattle.subjobs.specs.Sets.{subjobs_of, size};
+ghost use Rattle.subjobs.specs.Faults.{Fit};
 
-// Six lent lists, one place per sub-job: four of the set's, the deadlines that order the service, and the asks.
+use subjobs::Set;
+
+// A set that passes refusals 1 to 4, with lists of its length: the deadlines that order the service, and the asks.
 #[derive(Clone, Copy)]
 pub(crate) struct Work<'a> {
-    pub jobs: &'a [u32],
-    pub subtasks: &'a [u32],
-    pub releases: &'a [u32],
-    pub executions: &'a [u32],
+    pub set: Set<'a>,
     pub local: &'a [u32],
     pub asks: &'a [u32],
-    ghost fits: { Fits jobs.now subtasks.now releases.now executions.now local.now asks.now },
+    ghost fit: { Fit (subjobs_of set) true },
+    ghost each_local: { length local.now ≡ size (subjobs_of set) },
+    ghost each_ask: { length asks.now ≡ size (subjobs_of set) },
 }
 
 impl Work<'_> {
@@ -22,6 +25,6 @@ impl Work<'_> {
         requires { place < size_of self.now }
         ensures { result ≡ (load_of self.now).owed place }
     {
-        self.asks[place].min(self.executions[place])
+        self.asks[place].min(self.set.executions[place])
     }
 }

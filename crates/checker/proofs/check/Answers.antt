@@ -1,56 +1,30 @@
 -- `check` meets its contract: each return is the first of the three judgements that refuses, or none does.
-use mathlib.Core.List.{List}
-use mathlib.Core.Path.{◌≡◌, sym, ◌∙◌}
-use Prim.Native.Nat.{ℕ}
+use Rattle.std.proofs.Common.{refl, ◌∙◌}
 use borrow.Author.Tests.{eqb-true}
-use lib.ListN.{length}
-use Rattle.subjobs.specs.declared.Judgement.{Judgement}
-use Rattle.subjobs.specs.declared.Judgement.TheVariants.{Passed}
-use Rattle.subjobs.specs.Sets.{Subjobs}
-use Rattle.subjobs.specs.Judging.{first_refusal}
-use Rattle.subjobs.proofs.Fit.{fit}
-use Rattle.checker.specs.Answers.{judged, six, answer}
-use Rattle.checker.specs.Parts.{six_in}
+use Rattle.subjobs.proofs.Leaving.{leaves}
+use Rattle.checker.specs.Answers.{answer}
 use Rattle.checker.proofs.check.Goals as goal
 
--- What (6) says, counted by the set's size.
-met :
-    (s : Subjobs) (ds : List ℕ) → judged s ds ≡ Passed
-    → (j : Judgement) → j ≡ first_refusal (six_in s.releases s.executions s.deadlines s.criticals ds) (length s.releases)
-    → six s ds ≡ j
-met s ds p j e = sym (e ∙ rw (fit s _ p).lengths.releases)
-
-pub returns-in-Refused : goal.returns-in-Refused
+pub returns-in_err-fit : goal.returns-in_err-fit
 unfolding answer
-returns-in-Refused c = rw (← c.judge-judged.ensures, c.in-Refused.is)
+returns-in_err-fit c = leaves _ c.in_err-fit.field-0.0 c.from_residual.ensures.1 ∙ rw (← c.in_err-fit.ensures.judges)
 
-pub six-met-requires : goal.six-met-requires
-six-met-requires c =
-    let l = (fit _ _ (sym c.judge-judged.ensures ∙ c.in_default.is)).lengths in
-    record {
-      executions = l.executions ∙ sym l.releases;
-      deadlines = l.deadlines ∙ sym l.releases;
-      criticals = l.criticals ∙ sym l.releases;
-      proposed = eqb-true _ _ l.further ∙ sym l.releases;
-    }
+pub six-requires : goal.six-requires
+six-requires c = rw c.in_ok-fit.ensures.same (eqb-true _ _ (c.in_ok-fit.ensures.further refl))
 
-pub returns-in-Refused-met : goal.returns-in-Refused-met
+pub seven-requires : goal.seven-requires
+seven-requires c = rw c.in_ok-fit.ensures.same (eqb-true _ _ (c.in_ok-fit.ensures.further refl))
+
+pub returns-in_err-six : goal.returns-in_err-six
 unfolding answer
-returns-in-Refused-met c =
-    let p = sym c.judge-judged.ensures ∙ c.in_default.is in
-    rw (p, met _ c.args.proposed.now p _ c.six-met.ensures, c.in-Refused-met.is)
+returns-in_err-six c =
+    let met = rw c.in_ok-fit.ensures.same at c.six.ensures in
+    leaves _ c.in_err-six.field-0.0 c.from_residual-in_err-six.ensures.1
+    ∙ rw (← c.in_ok-fit.ensures.judges, ← met, c.in_err-six.was)
 
-pub seven-kept-requires : goal.seven-kept-requires
-seven-kept-requires c = sym c.judge-judged.ensures ∙ c.in_default.is
-
-pub returns-in-Refused-kept : goal.returns-in-Refused-kept
+pub returns : goal.returns
 unfolding answer
-returns-in-Refused-kept c =
-    let p = sym c.judge-judged.ensures ∙ c.in_default.is in
-    rw (p, met _ c.args.proposed.now p _ c.six-met.ensures, c.in_default-met.is, ← c.seven-kept.ensures, c.in-Refused-kept.is)
-
-pub returns-in-Passed : goal.returns-in-Passed
-unfolding answer
-returns-in-Passed c =
-    let p = sym c.judge-judged.ensures ∙ c.in_default.is in
-    rw (p, met _ c.args.proposed.now p _ c.six-met.ensures, c.in_default-met.is, ← c.seven-kept.ensures, c.in-Passed.is)
+returns c =
+    let met = rw c.in_ok-fit.ensures.same at c.six.ensures in
+    let kept = rw c.in_ok-fit.ensures.same at c.seven.ensures in
+    rw (← c.in_ok-fit.ensures.judges, ← met, c.in_ok-six.was, kept)

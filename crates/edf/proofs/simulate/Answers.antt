@@ -1,34 +1,24 @@
 -- `simulate` meets its contract: a refusal is what the judgement says, and otherwise the run is read off the core.
-use mathlib.Core.Path.{sym, ◌∙◌}
-use Rattle.subjobs.specs.Sets.{subjobs}
-use Rattle.subjobs.proofs.Fit.{fit}
-use Rattle.edf.proofs.Settled.{further, fits, simulated_refused, simulated_ran}
+use Rattle.std.proofs.Common.{sym, refl}
+use Rattle.subjobs.specs.Sets.{subjobs_of}
+use Rattle.edf.proofs.Settled.{further, simulated_refused, simulated_ran}
 use Rattle.edf.proofs.simulate.Goals as goal
 
 pub invariant_of-work : goal.invariant_of-work
 invariant_of-work c =
-    let A = c.args in
-    record {
-      fits =
-          fits (subjobs A.jobs.now A.subtasks.now A.releases.now A.executions.now A.deadlines.now A.criticals.now) A.local.now
-          A.asks.now A.finishes.now (fit _ _ (sym c.judge-judged.ensures ∙ c.in-Passed.is));
-    }
+    let h = further (subjobs_of c.args.set.now) c.args.local.now c.args.asks.now _ (c.in-Ok.ensures.further refl) in
+    record { fit = c.in-Ok.fit.fit; each_local = rw c.in-Ok.ensures.same h.0; each_ask = rw c.in-Ok.ensures.same h.1 }
 
 pub settle-requires-clause-room : goal.settle-requires-clause-room
 settle-requires-clause-room c =
-    let A = c.args in
-    (further (subjobs A.jobs.now A.subtasks.now A.releases.now A.executions.now A.deadlines.now A.criticals.now) A.local.now
-    A.asks.now A.finishes.now (fit _ _ (sym c.judge-judged.ensures ∙ c.in-Passed.is))).2
+    let h = further (subjobs_of c.args.set.now) c.args.local.now c.args.asks.now _ (c.in-Ok.ensures.further refl) in
+    rw c.in-Ok.ensures.same h.2
 
-pub returns-in-Refused : goal.returns-in-Refused
-returns-in-Refused c =
-    let A = c.args in
-    simulated_refused (subjobs A.jobs.now A.subtasks.now A.releases.now A.executions.now A.deadlines.now A.criticals.now)
-    A.local.now A.asks.now _ A.finishes.now _ (sym c.judge-judged.ensures ∙ c.in-Refused.is)
+pub returns-in-Err : goal.returns-in-Err
+returns-in-Err c = simulated_refused _ _ _ _ _ _ (sym c.in-Err.ensures.judges)
 
-pub returns-in-Passed : goal.returns-in-Passed
-returns-in-Passed c =
-    let A = c.args in
-    simulated_ran (subjobs A.jobs.now A.subtasks.now A.releases.now A.executions.now A.deadlines.now A.criticals.now)
-    A.local.now A.asks.now _ A.finishes.now (sym c.judge-judged.ensures ∙ c.in-Passed.is) _ _ c.settle.ensures.gives
-    c.settle.ensures.writes
+pub returns-in-Ok : goal.returns-in-Ok
+returns-in-Ok c =
+    let same = c.in-Ok.ensures.same in
+    simulated_ran (subjobs_of c.args.set.now) _ _ _ _ (sym c.in-Ok.ensures.judges) _ _
+    (rw same at c.settle.ensures.gives) (rw same at c.settle.ensures.writes)
