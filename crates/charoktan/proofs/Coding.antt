@@ -2,54 +2,86 @@
 use Prim.Native.Nat.{ℕ, zero, suc, ◌+◌, ◌*◌, ◌/◌, ◌%◌, ◌≤◌, ◌<◌}
 use mathlib.Core.List.{List, [], ◌∷◌, ◌++◌, append-nil}
 use mathlib.Core.Path.{◌≡◌, refl, sym, ap, ◌∙◌}
+use native.Mathlib.Nat.{mul-suc, mul-zero}
 use native.Mathlib.Numerals.{add-one}
 use native.Mathlib.Omega.{arith}
 use lib.Dec.{ltb}
 use lib.ListN.{length, get_or, set, take, drop, length-append, length-take, length-drop, drop_of_length-le, get_or-append}
-use lib.Seq.{take-suc-set, take-suc, take_at, get_or_at, take_all, length-take-le, drop-append-add, drop-drop}
+use lib.Seq.{take-suc-set, take-suc, take_at, get_or_at, get_or-take, get_or-drop, take_all, length-take-le, drop-append-add, drop-drop}
 use Rattle.lists.proofs.Cases.{test, tests}
-use Rattle.subjobs.specs.Layout.{list_at}
-use Rattle.subjobs.specs.Sets.{subjobs}
-use Rattle.subjobs.proofs.LaidOut.{laid_here}
-use Rattle.charoktan.specs.Records.{Fields, bytes, column, count, encoded, records, word, words}
+use Rattle.std.specs.Int.{from_le_bytes}
+use Rattle.std.specs.Simd.{first_chunks}
+use mir.Syntax.{w32}
+use Rattle.subjobs.specs.Sets.{Subjobs, subjobs}
+use Rattle.charoktan.specs.Records.{bytes, column, encoded, front, word, words}
 
--- One more number read,
+-- What std reads from four bytes is the number there.
+pub word-from_le_bytes : (r : List ℕ) → from_le_bytes w32 r ≡ word r 0
+word-from_le_bytes r = omega arith
+
+-- A number in a part of the bytes is the number there in all of them,
+pub word-part : (bs : List ℕ) (p m x : ℕ) → x + 4 ≤ m → word (take m (drop p bs)) x ≡ word bs (p + x)
+word-part bs p m x h =
+    let at : (y : ℕ) → y < m → get_or (take m (drop p bs)) y 0 ≡ get_or bs (p + y) 0 = λ y b. get_or-take m (drop p bs) y 0 b ∙ get_or-drop p bs y 0 in
+    let past : (k : ℕ) → p + (x + k) ≡ p + x + k = λ k. omega arith in
+    rw (at x (omega arith), at (x + 1) (omega arith), at (x + 2) (omega arith), at (x + 3) (omega arith), past 1, past 2, past 3)
+
+record_at : (w k i : ℕ) (bs d : List ℕ) → i < k → get_or (first_chunks w k bs) i d ≡ take w (drop (w * i) bs)
+record_at w zero i bs d h = absurd (omega arith)
+record_at w (suc k) zero bs d h = rw mul-zero
+record_at w (suc k) (suc i) bs d h =
+    record_at w k i (drop w bs) d (omega arith)
+    ∙ ap (take w) (drop-drop (w * i) w bs ∙ ap (λ (x : ℕ). drop x bs) (omega (arith, mul-suc w i)))
+
+-- and so is a number in the i-th record of w bytes.
+pub word-record :
+    (bs : List ℕ) (rs : List (List ℕ)) (w k i at : ℕ) (d r : List ℕ) → rs ≡ first_chunks w k bs → i < k → at + 4 ≤ w
+    → r ≡ get_or rs i d
+    → word r at ≡ word bs (w * i + at)
+word-record bs rs w k i at d r q h b e = rw (e, q, record_at w k i bs d h) (word-part bs (w * i) w at b)
+
+-- One more number read from records of w bytes,
 pub column_more :
-    (bs out : List ℕ) (w k i v : ℕ) → i < length out → take i out ≡ column bs w k i → v ≡ word bs (w * i + k)
+    (bs out : List ℕ) (rs : List (List ℕ)) (d r : List ℕ) (w k n i v : ℕ)
+    → rs ≡ first_chunks w n bs
+    → i < n
+    → k + 4 ≤ w
+    → i < length out
+    → take i out ≡ column bs w k i
+    → r ≡ get_or rs i d
+    → v ≡ word r k
     → take (i + 1) (set out i v) ≡ column bs w k (i + 1)
 unfolding column
-column_more bs out w k i v h e q = rw (add-one, take-suc-set out i v h, e, q)
+column_more bs out rs d r w k n i v q l b h e p z =
+    rw (add-one, take-suc-set out i v h, e, z ∙ word-record bs rs w n i k d r q l b p)
 
--- one more of a field,
-pub field_more :
-    (bs l : List ℕ) (n k i v : ℕ)
-    → n * k + i < length l
-    → list_at l n k i ≡ column bs 24 (4 * k) i
-    → v ≡ word bs (24 * i + 4 * k)
-    → list_at (set l (n * k + i) v) n k (i + 1) ≡ column bs 24 (4 * k) (i + 1)
-unfolding column
-field_more bs l n k i v h e q = laid_here l n k i v h ∙ rw (e, q, add-one i)
+-- and one more record: the first n of them.
+abbrev pub first : List ℕ → ℕ → Subjobs
+first bs n =
+    subjobs (column bs 24 0 n) (column bs 24 4 n) (column bs 24 8 n) (column bs 24 12 n) (column bs 24 16 n) (column bs 24 20 n)
 
--- and all of them: the set that the bytes hold.
-pub fields_records :
-    (bs l js ks rs cs ds zs : List ℕ)
-    → Fields bs (count bs) (count bs) l
-    → js ≡ list_at l (count bs) 0 (count bs)
-    → ks ≡ list_at l (count bs) 1 (count bs)
-    → rs ≡ list_at l (count bs) 2 (count bs)
-    → cs ≡ list_at l (count bs) 3 (count bs)
-    → ds ≡ list_at l (count bs) 4 (count bs)
-    → zs ≡ list_at l (count bs) 5 (count bs)
-    → subjobs js ks rs cs ds zs ≡ records bs
-unfolding records
-fields_records bs l js ks rs cs ds zs t a b c d e f =
+pub record_more :
+    (bs : List ℕ) (rs : List (List ℕ)) (n i : ℕ) (s : Subjobs) (a b c d e f : ℕ)
+    → rs ≡ first_chunks 24 n bs
+    → i < n
+    → (i < length s.jobs) × (i < length s.subtasks) × (i < length s.releases) × (i < length s.executions) × (i < length s.deadlines) × (i < length s.criticals)
+    → front i s ≡ first bs i
+    → a ≡ word (get_or rs i []) 0
+    → b ≡ word (get_or rs i []) 4
+    → c ≡ word (get_or rs i []) 8
+    → d ≡ word (get_or rs i []) 12
+    → e ≡ word (get_or rs i []) 16
+    → f ≡ word (get_or rs i []) 20
+    → front (i + 1) (subjobs (set s.jobs i a) (set s.subtasks i b) (set s.releases i c) (set s.executions i d) (set s.deadlines i e) (set s.criticals i f))
+    ≡ first bs (i + 1)
+record_more bs rs n i s a b c d e f r h l q qa qb qc qd qe qf =
     rw (
-      a ∙ t 0 (omega arith),
-      b ∙ t 1 (omega arith),
-      c ∙ t 2 (omega arith),
-      d ∙ t 3 (omega arith),
-      e ∙ t 4 (omega arith),
-      f ∙ t 5 (omega arith),
+      column_more bs s.jobs rs [] _ 24 0 n i a r h (omega arith) l.0 (ap (λ (x : Subjobs). x.jobs) q) refl qa,
+      column_more bs s.subtasks rs [] _ 24 4 n i b r h (omega arith) l.1 (ap (λ (x : Subjobs). x.subtasks) q) refl qb,
+      column_more bs s.releases rs [] _ 24 8 n i c r h (omega arith) l.2 (ap (λ (x : Subjobs). x.releases) q) refl qc,
+      column_more bs s.executions rs [] _ 24 12 n i d r h (omega arith) l.3 (ap (λ (x : Subjobs). x.executions) q) refl qd,
+      column_more bs s.deadlines rs [] _ 24 16 n i e r h (omega arith) l.4 (ap (λ (x : Subjobs). x.deadlines) q) refl qe,
+      column_more bs s.criticals rs [] _ 24 20 n i f r h (omega arith) l.5 (ap (λ (x : Subjobs). x.criticals) q) refl qf,
     )
 
 pub length-column : (bs : List ℕ) (w k n : ℕ) → length (column bs w k n) ≡ n

@@ -12,7 +12,7 @@ use Rattle.lists.proofs.Cases.{test, both}
 use Rattle.lists.proofs.Mapped.{take-replicate}
 use Rattle.subjobs.specs.declared.Judgement.TheVariants as judged
 use Rattle.subjobs.specs.declared.Reason.TheVariants.{TooMany}
-use Rattle.subjobs.specs.Sets.{size}
+use Rattle.subjobs.specs.Sets.{Subjobs, size}
 use Rattle.subjobs.specs.Judging.{judgement}
 use Rattle.subjobs.specs.Faults as faults
 use Rattle.subjobs.specs.Faults.{OneLength}
@@ -20,13 +20,14 @@ use Rattle.subjobs.proofs.Fit.{judged_exactly}
 use Rattle.subjobs.proofs.Reported.{number_range}
 use Rattle.olda.specs.declared.Answer.{Answer}
 use Rattle.olda.specs.declared.Answer.TheVariants.{Placed, Nothing, Refused}
-use Rattle.olda.specs.Answers.{answer, results}
+use Rattle.olda.specs.Answers.{answer, results, Assigns}
 use Rattle.olda.proofs.Results.{results-length, refused_within}
 use Rattle.checker.specs.declared.Answer as checker
 use Rattle.checker.specs.declared.Answer.TheVariants as check
 use Rattle.checker.specs.Answers as checkers
-use Rattle.charoktan.specs.Records.{column, words, count, records, encoded, fitting}
-use Rattle.charoktan.specs.Answers.{checking, checked, placing, assigned, if_placed, assigned_bytes, AssignsBytes}
+use Rattle.checker.specs.Answers.{Checks}
+use Rattle.charoktan.specs.Records.{column, words, count, records, encoded, fitting, Within}
+use Rattle.charoktan.specs.Answers.{checking, checked, placing, assigned, if_placed, assigned_bytes, AssignsBytes, ChecksBytes}
 use Rattle.charoktan.proofs.Coding.{length-column, length-encoded}
 
 -- The lengths that fit: 4 bytes of results for each record.
@@ -69,11 +70,6 @@ module _ (bs out : List ℕ) where
     many h =
         answered (Refused TooMany) (rw (judged_many bs (eqb (count bs) (size (records bs))) (eq-eqb _ _ (sym (size-records bs))) h))
 
-  -- What a call returns and leaves, from what it must.
-  pub assigns :
-      {r x : ℕ} {l y : List ℕ} → r ≡ x → l ≡ y → (assigned bs (length out) ≡ x) × (assigned_bytes bs out ≡ y) → AssignsBytes bs out r l
-  assigns p q d = (p ∙ sym d.0, q ∙ sym d.1)
-
 -- Whatever comes of a call, the results keep their length.
 pub assigned_length : (bs out : List ℕ) → length (assigned_bytes bs out) ≡ length out
 assigned_length bs out =
@@ -97,16 +93,22 @@ place_small bs m = test (fitting bs m) (λ e. rw e (by_answer (answer (records b
     by_answer Nothing q = omega arith
     by_answer (Refused r) q = omega (arith, refused_within (records bs) (count bs) r q, (number_range r).1)
 
--- What a call that keeps the length left in the front of a room of zeros is what it gives for zeros.
-pub front :
-    (f : List ℕ → List ℕ) → ((out : List ℕ) → length (f out) ≡ length out) → (n : ℕ) (zeros local : List ℕ)
-    → n ≤ length zeros
-    → zeros ≡ replicate (length zeros) 0
-    → local ≡ f (take n zeros) ++ drop n zeros
-    → take n local ≡ f (replicate n 0)
-front f keeps n zeros local h z e =
-    let t : take n zeros ≡ replicate n 0 = ap (take n) z ∙ take-replicate n (length zeros) 0 h in
-    rw (e, t) (take_at (f (replicate n 0)) (drop n zeros) n (keeps (replicate n 0) ∙ length-replicate {A = ℕ} n 0))
+-- What the assignment answers and leaves within rooms for n records is what the door is held to.
+pub assigned_within :
+    (bs out : List ℕ) (n : ℕ) (s : Subjobs) (r : Answer) (l : List ℕ)
+    → Within bs out n
+    → s ≡ records bs
+    → Assigns s (take (count bs) (replicate n 0)) r l
+    → (a : Answer)
+    → r ≡ a
+    → (answer (records bs) (count bs) ≡ a) × (length l ≡ count bs) × AssignsBytes bs out (placing a) (if_placed a (encoded l) out)
+assigned_within bs out n s r l W e h a q =
+    let t : take (count bs) (replicate n 0) ≡ replicate (count bs) 0 = take-replicate (count bs) n 0 W.few in
+    let k : length (replicate (count bs) 0) ≡ count bs = length-replicate {A = ℕ} (count bs) 0 in
+    let w : answer (records bs) (count bs) ≡ a = sym (h.0 ∙ rw (e, t, k)) ∙ q in
+    let z : l ≡ results (records bs) (replicate (count bs) 0) = h.1 ∙ rw (e, t) in
+    let d = answered bs out W.fits a w in
+    (w, ap length z ∙ results-length (records bs) (replicate (count bs) 0) ∙ k, (sym d.0, rw z (sym d.1)))
 
 module _ (bs ds : List ℕ) where
   pub unfit_check : fitting bs (length ds) ≡ false → checked bs ds ≡ 1
@@ -124,3 +126,19 @@ module _ (bs ds : List ℕ) where
     many_check h =
         answered_check (check.Refused TooMany)
         (rw (judged_many bs (eqb (length (words ds (count bs))) (size (records bs))) (eq-eqb _ _ (length-column ds 4 0 (count bs) ∙ sym (size-records bs))) h))
+
+-- The same for the checker.
+pub checked_within :
+    (bs ds : List ℕ) (n : ℕ) (s : Subjobs) (l p : List ℕ) (r : checker.Answer)
+    → Within bs ds n
+    → s ≡ records bs
+    → take (length ds / 4) p ≡ column ds 4 0 (length ds / 4)
+    → l ≡ take (count bs) p
+    → Checks s l r
+    → (a : checker.Answer)
+    → r ≡ a
+    → (checkers.answer (records bs) (words ds (count bs)) ≡ a) × ChecksBytes bs ds (checking a)
+checked_within bs ds n s l p r W e f z h a q =
+    let k : length ds / 4 ≡ count bs = omega (arith, fit_length bs (length ds) W.fits) in
+    let w : checkers.answer (records bs) (words ds (count bs)) ≡ a = sym (h ∙ rw (e, z ∙ rw k at f)) ∙ q in
+    (w, sym (answered_check bs ds W.fits a w))

@@ -3,22 +3,24 @@
 use Prim.Native.Nat.{ℕ, ◌*◌, ◌/◌, ◌%◌}
 use mathlib.Core.Bool.{true, false, ◌&&◌}
 use mathlib.Core.List.{List}
-use mathlib.Core.Path.{◌≡◌, sym, ◌∙◌}
+use mathlib.Core.Path.{◌≡◌, sym, ap, ◌∙◌}
 use native.Mathlib.Omega.{arith}
 use borrow.Author.Tests.{eqb-true}
 use lib.Dec.{eqb}
-use lib.ListN.{length, replicate}
+use lib.ListN.{length, take, replicate, length-replicate}
+use Rattle.lists.proofs.Mapped.{take-replicate}
 use Rattle.lists.proofs.Cases.{both}
 use Rattle.subjobs.specs.declared.Judgement.{Judgement}
 use Rattle.subjobs.specs.declared.Judgement.TheVariants.{Refused}
 use Rattle.subjobs.specs.declared.Reason.TheVariants.{TooMany}
 use Rattle.subjobs.specs.Judging.{if_passed}
-use Rattle.graph.specs.Graphs.{graph, size, arcs}
-use Rattle.graph.specs.Answers.{answer, results}
+use Rattle.graph.specs.Graphs.{Graph, graph, size, arcs}
+use Rattle.graph.specs.Answers.{answer, results, Finds}
 use Rattle.graph.specs.Faults as faults
 use Rattle.graph.specs.Faults.{Few}
 use Rattle.graph.proofs.Judged.{refused_exactly}
-use Rattle.charoktan.specs.Records.{column, words, encoded, graph_of, fitting_graph}
+use Rattle.graph.proofs.Finding.{results-length}
+use Rattle.charoktan.specs.Records.{column, words, encoded, graph_of, fitting_graph, GraphWithin}
 use Rattle.charoktan.specs.Answers.{code, found, found_bytes, FindsBytes}
 use Rattle.charoktan.proofs.Coding.{length-column}
 
@@ -71,7 +73,21 @@ module _ (es bs : List ℕ) where
           ((refused_exactly (graph_of es bs) (length es / 4) TooMany).1
           (faults.many (record { results = sym (length-column es 4 0 (length es / 4)); afters = l 4; hops = l 8 }) n))
 
-    -- What a call returns and leaves, from what it must.
-    pub finds :
-        {r x : ℕ} {l y : List ℕ} → r ≡ x → l ≡ y → (found es bs (length out) ≡ x) × (found_bytes es bs out ≡ y) → FindsBytes es bs out r l
-    finds p q d = (p ∙ sym d.0, q ∙ sym d.1)
+-- What the graph's entry answers and leaves within rooms for n sub-jobs and m arcs is what the door is held to.
+pub found_within :
+    (es bs out : List ℕ) (n m : ℕ) (g : Graph) (r : Judgement) (l : List ℕ)
+    → GraphWithin es bs out n m
+    → g ≡ graph_of es bs
+    → Finds g (take (length es / 4) (replicate n 0)) r l
+    → (a : Judgement)
+    → r ≡ a
+    → (answer (graph_of es bs) (length es / 4) ≡ a)
+    × (length l ≡ length es / 4)
+    × FindsBytes es bs out (if_passed a 0 code) (if_passed a (encoded l) (λ r. out))
+found_within es bs out n m g r l W e h a q =
+    let t : take (length es / 4) (replicate n 0) ≡ replicate (length es / 4) 0 = take-replicate (length es / 4) n 0 W.few in
+    let k : length (replicate (length es / 4) 0) ≡ length es / 4 = length-replicate {A = ℕ} (length es / 4) 0 in
+    let w : answer (graph_of es bs) (length es / 4) ≡ a = sym (h.0 ∙ rw (e, t, k)) ∙ q in
+    let z : l ≡ results (graph_of es bs) (replicate (length es / 4) 0) = h.1 ∙ rw (e, t) in
+    let d = graph_answered es bs out W.fits a w in
+    (w, ap length z ∙ results-length (graph_of es bs) (replicate (length es / 4) 0) ∙ k, (sym d.0, rw z (sym d.1)))

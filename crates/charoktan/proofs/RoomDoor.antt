@@ -1,7 +1,7 @@
 -- A room at the door: its lengths, what the loop over the sets holds, and the ways out.
 use Prim.Native.Nat.{ℕ, suc, ◌+◌, ◌*◌, ◌/◌, ◌%◌, ◌≤◌, ◌<◌}
 use mathlib.Core.Bool.{true, false, ◌&&◌}
-use mathlib.Core.List.{List, ◌++◌}
+use mathlib.Core.List.{List, [], ◌++◌}
 use mathlib.Core.Path.{◌≡◌, refl, sym, ap, ◌∙◌}
 use native.Mathlib.Nat.{mul-suc, mul-le-mul_left}
 use native.Mathlib.Omega.{arith}
@@ -9,6 +9,9 @@ use borrow.Author.Tests.{eqb-true, leb-true}
 use lib.Dec.{leb, eqb}
 use lib.ListN.{length, get_or, take, drop, length-drop}
 use lib.Seq.{length-take-le, get_or-take, get_or-drop, ext_get_or}
+use mir.Syntax.{w32}
+use Rattle.std.specs.Int.{from_le_bytes}
+use Rattle.std.specs.Simd.{first_chunks}
 use Rattle.lists.specs.Places.{total}
 use Rattle.lists.proofs.Cases.{both}
 use Rattle.stretches.specs.Stretches.{stretch, start, each}
@@ -18,25 +21,22 @@ use Rattle.stretches.proofs.Stretched.{each-length, each_at, Written, written_no
 use Rattle.charoktan.specs.Records.{bytes, column, count, fitting, word}
 use Rattle.charoktan.specs.Answers.{assigned, assigned_bytes}
 use Rattle.charoktan.specs.Rooms.{RoomBytes, words_of, code_at, bytes_at, fitting_room, roomed, deadline_bytes, number_bytes, place_bytes, RoomsBytes, Stretch, Reads, AllRoomed}
-use Rattle.charoktan.proofs.Coding.{length-column, column_at, Put, put_none, put_length, put_next, put_whole}
+use Rattle.charoktan.proofs.Coding.{word-from_le_bytes, word-part, word-record, length-column, column_at, Put, put_none, put_length, put_next, put_whole}
 use Rattle.charoktan.proofs.Door.{fit_length, assigned_length}
 
 pub words_length : (ls : List ℕ) → length (words_of ls) ≡ length ls / 4
 words_length ls = length-column ls 4 0 (length ls / 4)
 
--- The length of set k stands at byte 4 k.
-pub length_here : (ls : List ℕ) (k : ℕ) → k < length ls / 4 → word ls (4 * k) ≡ get_or (words_of ls) k 0
-length_here ls k h =
-    sym (column_at ls 4 0 (length ls / 4) k h ∙ ap (word ls) (omega arith))
+-- The length of set k is read from the k-th four bytes.
+pub length_here :
+    (ls : List ℕ) (rs : List (List ℕ)) (k : ℕ) → rs ≡ first_chunks 4 (length ls / 4) ls → k < length ls / 4
+    → from_le_bytes w32 (get_or rs k []) ≡ get_or (words_of ls) k 0
+length_here ls rs k q h =
+    word-from_le_bytes (get_or rs k [])
+    ∙ word-record ls rs 4 (length ls / 4) k 0 [] (get_or rs k []) q h (omega arith) refl
+    ∙ sym (column_at ls 4 0 (length ls / 4) k h)
 
--- A number in a stretch of the bytes is the number there in all of them,
-word-stretch : (bs : List ℕ) (p m x : ℕ) → x + 4 ≤ m → word (stretch p m bs) x ≡ word bs (p + x)
-word-stretch bs p m x h =
-    let at : (y : ℕ) → y < m → get_or (stretch p m bs) y 0 ≡ get_or bs (p + y) 0 = λ y b. get_or-take m (drop p bs) y 0 b ∙ get_or-drop p bs y 0 in
-    let past : (k : ℕ) → p + (x + k) ≡ p + x + k = λ k. omega arith in
-    rw (at x (omega arith), at (x + 1) (omega arith), at (x + 2) (omega arith), at (x + 3) (omega arith), past 1, past 2, past 3)
-
--- so the numbers in a stretch of whole records are a stretch of the numbers.
+-- The numbers in a stretch of whole records are a stretch of the numbers.
 pub column-stretch :
     (bs : List ℕ) (w j m a n : ℕ) → j + 4 ≤ w → a + n ≤ m
     → column (stretch (w * a) (w * n) bs) w j n ≡ stretch a n (column bs w j m)
@@ -49,7 +49,7 @@ column-stretch bs w j m a n hj h =
     let c : i < n = omega (arith, length-column (stretch (w * a) (w * n) bs) w j n) in
     let d : w * i + w ≤ w * n = omega (arith, mul-le-mul_left {m = suc i} {n = n} w c, mul-suc w i) in
     column_at (stretch (w * a) (w * n) bs) w j n i c
-    ∙ word-stretch bs (w * a) (w * n) (w * i + j) (omega arith)
+    ∙ word-part bs (w * a) (w * n) (w * i + j) (omega arith)
     ∙ ap (word bs) (omega arith)
     ∙ sym (get_or-take n (drop a (column bs w j m)) i 0 c ∙ get_or-drop a (column bs w j m) i 0 ∙ column_at bs w j m (a + i) (omega arith)))
 

@@ -1,12 +1,13 @@
 -- What the door returns and leaves: the assignment's, the checker's and the graph's own answers on the decoded lists.
 --
 --   code number place   == the number returned for a refusal
+--   told o, Small o     == the number returned for what came of a call; its place fits that number
 --   assigned bs m       == what charoktan_assign returns, for m bytes of results
 --   assigned_bytes bs out == what the results hold afterwards, if they held out before
 --   checked bs ds       == what charoktan_check returns
 --   found es arcs m     == what charoktan_critical returns, for m bytes of results
 --   found_bytes es arcs out == what the results hold afterwards, if they held out before
-use Rattle.std.specs.Prelude.{ℕ, ◌+◌, ◌*◌, ◌/◌, cond, List, ◌≡◌, length, replicate}
+use Rattle.std.specs.Prelude.{ℕ, ◌+◌, ◌*◌, ◌/◌, ◌<◌, cond, List, ◌≡◌, length, replicate, Result, Ok, Err}
 use Rattle.subjobs.specs.Judging.{if_passed}
 use Rattle.subjobs.specs.declared.Reason.{Reason}
 use Rattle.subjobs.specs.Reasons.{number_of, place_of}
@@ -22,6 +23,15 @@ use Rattle.charoktan.specs.Records.{count, records, encoded, fitting, words, gra
 -- The number returned is 0, or the refusal number plus 65,536 times the place.
 abbrev pub code : Reason → ℕ
 code r = number_of r + 65_536 * place_of r
+
+abbrev pub told : Result Unit Reason → ℕ
+told (Ok u) = 0
+told (Err r) = code r
+
+-- The place of a refusal is small.
+abbrev pub Small : Result Unit Reason → Type 0
+Small (Ok u) = Unit {0}
+Small (Err r) = place_of r < 1_024
 
 abbrev pub placing : olda.Answer → ℕ
 placing (Placed r) = 0

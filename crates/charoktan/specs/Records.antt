@@ -3,22 +3,20 @@
 --   word bs at       == the 32-bit little-endian number at byte at
 --   column bs w k n  == the numbers at byte k of each of n records of w bytes
 --   records bs       == the set that the bytes hold
---   Fields bs n i l  == the six fields of the first i records stand in l, in lists laid out n places apart
---   Reading bs n i l == that, with record i of n to be read next, and room for it
+--   lists f          == the lists of six fields
+--   front n s        == the first n places of each list
 --   bytes v          == the four bytes of a number, little-endian
 --   encoded vs       == the bytes of a list of numbers
---   Column bs w k n  == n records of w bytes are there, and a number stands at byte k of each
 --   words bs n       == the n numbers that these bytes hold
 --   fitting bs m     == the lengths fit: whole records, and 4 bytes of results for each
+--   Within bs ds n   == the lengths fit n records at most
 --   graph_of es as    == the graph whose executions and arcs the bytes hold
 --   fitting_graph es as m == their lengths fit: whole executions and arcs, and m bytes of results
 --   GraphWithin es as out n m == the lengths fit n sub-jobs and m arcs at most
---   GraphRooms ..    == the lengths fit, and there is room for executions, befores, afters, hops and, all zeros, for results
---   Rooms bs ds fs l == the lengths fit, fs has room for the six fields, and l, all zeros, for one list more
-use Rattle.std.specs.Prelude.{ℕ, zero, suc, ◌+◌, ◌*◌, ◌/◌, ◌%◌, ◌≤◌, ◌<◌, Bool, true, ◌&&◌, List, [], ◌∷◌, ◌++◌, ◌≡◌, eqb, length, get_or, replicate}
+use Rattle.std.specs.Prelude.{ℕ, zero, suc, ◌+◌, ◌*◌, ◌/◌, ◌%◌, ◌≤◌, ◌<◌, Bool, true, ◌&&◌, List, [], ◌∷◌, ◌++◌, ◌≡◌, eqb, length, get_or, take, replicate}
 use Rattle.subjobs.specs.Sets.{Subjobs, subjobs}
-use Rattle.subjobs.specs.Layout.{list_at}
 use Rattle.graph.specs.Graphs.{Graph, graph}
+use Rattle.charoktan.specs.declared.bytes.Fields.{Fields}
 
 abbrev pub word : List ℕ → ℕ → ℕ
 word bs at =
@@ -27,10 +25,6 @@ word bs at =
 unfoldable pub column : List ℕ → (width at : ℕ) → ℕ → List ℕ
 column bs w k zero = []
 column bs w k (suc n) = column bs w k n ++ (word bs (w * n + k) ∷ [])
-
-pub record Column (bs : List ℕ) (w k n : ℕ) : Type 0 where
-  pub inside : k + 4 ≤ w
-  pub whole : w * n ≤ length bs
 
 -- how many records the bytes hold
 abbrev pub count : List ℕ → ℕ
@@ -42,15 +36,13 @@ records bs =
     let field : ℕ → List ℕ = λ k. column bs 24 k (count bs) in
     subjobs (field 0) (field 4) (field 8) (field 12) (field 16) (field 20)
 
--- the same six fields of i records, in lists laid out n places apart: what the code has read
-abbrev pub Fields : List ℕ → (n i : ℕ) → List ℕ → Type 0
-Fields bs n i l = (k : ℕ) → k < 6 → list_at l n k i ≡ column bs 24 (4 * k) i
+-- the six fields that the code has read
+abbrev pub lists : {N : ℕ} → Fields N → Subjobs
+lists f = subjobs f.jobs f.subtasks f.releases f.executions f.deadlines f.criticals
 
-pub record Reading (bs : List ℕ) (n i : ℕ) (l : List ℕ) : Type 0 where
-  pub next : i < n
-  pub inside : 24 * n ≤ length bs
-  pub room : 6 * n ≤ length l
-  pub fields : Fields bs n i l
+abbrev pub front : ℕ → Subjobs → Subjobs
+front n s =
+    subjobs (take n s.jobs) (take n s.subtasks) (take n s.releases) (take n s.executions) (take n s.deadlines) (take n s.criticals)
 
 -- results are 4 bytes little-endian each
 abbrev pub bytes : ℕ → List ℕ
@@ -67,13 +59,11 @@ words bs n = column bs 4 0 n
 abbrev pub fitting : List ℕ → ℕ → Bool
 fitting bs m = eqb (length bs % 24) 0 && eqb m (4 * count bs)
 
--- What the work on whole records is lent.
-pub record Rooms (bs ds fs l : List ℕ) : Type 0 where
+-- What the work on whole records is held to: there is room for n of them.
+pub record Within (bs ds : List ℕ) (n : ℕ) : Type 0 where
   pub fits : fitting bs (length ds) ≡ true
-  pub few : count bs ≤ 128
-  pub fields : 6 * count bs ≤ length fs
-  pub list : count bs ≤ length l
-  pub zeros : l ≡ replicate (length l) 0
+  pub few : count bs ≤ n
+  pub most : n ≤ 128
 
 -- executions 4 bytes each, arcs 12 bytes each: before, after, hop delay
 unfoldable pub graph_of : (es arcs : List ℕ) → Graph
@@ -89,14 +79,5 @@ pub record GraphWithin (es arcs out : List ℕ) (n m : ℕ) : Type 0 where
   pub fits : fitting_graph es arcs (length out) ≡ true
   pub few : length es / 4 ≤ n
   pub few_arcs : length arcs / 12 ≤ m
-
-pub record GraphRooms (es arcs out ts from to hs l : List ℕ) : Type 0 where
-  pub fits : fitting_graph es arcs (length out) ≡ true
-  pub few : length es / 4 ≤ 128
-  pub few_arcs : length arcs / 12 ≤ 1_024
-  pub times : length es / 4 ≤ length ts
-  pub befores : length arcs / 12 ≤ length from
-  pub afters : length arcs / 12 ≤ length to
-  pub hops : length arcs / 12 ≤ length hs
-  pub list : length es / 4 ≤ length l
-  pub zeros : l ≡ replicate (length l) 0
+  pub most : n ≤ 128
+  pub most_arcs : m ≤ 1_024

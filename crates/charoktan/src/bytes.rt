@@ -1,67 +1,67 @@
 // Numbers in the engine's bytes, 32 bits little-endian.
-ghost use Rattle.std.specs.Prelude.{◌+◌, ◌*◌, ◌≤◌, ◌<◌, ◌≡◌, ◌++◌, length, take, drop};
-ghost use Rattle.charoktan.specs.Records.{word, column, Column, Fields, Reading, bytes, encoded};
-ghost use Rattle.subjobs.specs.Layout.{list_at};
+ghost use Rattle.std.specs.Prelude.{◌+◌, ◌*◌, ◌/◌, ◌≤◌, ◌≡◌, ◌++◌, length, take, drop};
+ghost use Rattle.charoktan.specs.Records.{word, column, count, lists, front, records, bytes, encoded};
 
-fn wide(x: u8) -> u32
-    ensures { (result ≡ x) × (result < 256) }
-{
-    x as u32
-}
-
-// The number at a byte.
-pub(crate) fn word(bytes: &[u8], at: usize) -> u32
+// The number whose four bytes begin at a byte.
+fn word(bytes: &[u8], at: usize) -> u32
     requires { at + 4 ≤ length bytes.now }
     ensures { result ≡ word bytes.now at }
 {
-    wide(bytes[at])
-        + 256 * wide(bytes[at + 1])
-        + 65_536 * wide(bytes[at + 2])
-        + 16_777_216 * wide(bytes[at + 3])
+    u32::from_le_bytes([bytes[at], bytes[at + 1], bytes[at + 2], bytes[at + 3]])
 }
 
-// One number of each of n records of `width` bytes, the one at byte `at` of it.
-pub(crate) fn column(bytes: &[u8], width: usize, at: usize, n: usize, out: &mut [u32])
-    requires { Column bytes.now width at n × (n ≤ length out.old) }
-    ensures { take n out.new ≡ column bytes.now width at n }
+// One number of each record of WIDTH bytes, the one at byte `at` of it.
+pub(crate) fn column<const WIDTH: usize>(bytes: &[u8], at: usize, out: &mut [u32])
+    requires inside { at + 4 ≤ WIDTH }
+    requires narrow { WIDTH ≤ 24 }
+    requires room { length bytes.now / WIDTH ≤ length out.old }
+    ensures { take (length bytes.now / WIDTH) out.new ≡ column bytes.now WIDTH at (length bytes.now / WIDTH) }
 {
-    let mut i = 0;
-    while i < n {
-        out[i] = word(bytes, width * i + at);
-        i += 1;
+    let (records, _) = bytes.as_chunks::<WIDTH>();
+    for (i, record) in records.iter().enumerate() {
+        out[i] = word(record, at);
     }
 }
 
-// The six fields of record i, each to the list of its field; the lists stand n places apart.
-fn record(bytes: &[u8], i: usize, n: usize, out: &mut [u32])
-    requires { Reading bytes.now n i out.old }
-    ensures { Fields bytes.now n (i + 1) out.new }
-{
-    let mut k = 0;
-    while k < 6 {
-        out[n * k + i] = word(bytes, 24 * i + 4 * k);
-        k += 1;
-    }
+// The six fields of up to N records, a list each.
+#[derive(Drop)]
+pub(crate) struct Fields<const N: usize> {
+    pub(crate) jobs: [u32; N],
+    pub(crate) subtasks: [u32; N],
+    pub(crate) releases: [u32; N],
+    pub(crate) executions: [u32; N],
+    pub(crate) deadlines: [u32; N],
+    pub(crate) criticals: [u32; N],
 }
 
-// The six fields of n records, one list after the other.
-pub(crate) fn columns(bytes: &[u8], n: usize, out: &mut [u32])
-    requires { (24 * n ≤ length bytes.now) × (6 * n ≤ length out.old) }
-    ensures { Fields bytes.now n n out.new }
-{
-    let mut i = 0;
-    while i < n {
-        record(bytes, i, n, out);
-        i += 1;
+impl<const N: usize> Fields<N> {
+    // Room for N records.
+    pub(crate) fn new() -> Fields<N> {
+        Fields {
+            jobs: [0; N],
+            subtasks: [0; N],
+            releases: [0; N],
+            executions: [0; N],
+            deadlines: [0; N],
+            criticals: [0; N],
+        }
     }
-}
 
-// The k-th of the lists of n numbers that stand one after the other.
-pub(crate) fn field(lists: &[u32], n: usize, k: usize) -> &[u32]
-    requires { n * k + n ≤ length lists.now }
-    ensures { result.now ≡ list_at lists.now n k n }
-{
-    &lists[n * k..n * k + n]
+    // Reads records of 24 bytes, one place of each list after the other.
+    pub(crate) fn read(&mut self, bytes: &[u8])
+        requires { count bytes.now ≤ N }
+        ensures { front (count bytes.now) (lists self.new) ≡ records bytes.now }
+    {
+        let (records, _) = bytes.as_chunks::<24>();
+        for (i, record) in records.iter().enumerate() {
+            self.jobs[i] = word(record, 0);
+            self.subtasks[i] = word(record, 4);
+            self.releases[i] = word(record, 8);
+            self.executions[i] = word(record, 12);
+            self.deadlines[i] = word(record, 16);
+            self.criticals[i] = word(record, 20);
+        }
+    }
 }
 
 // The four bytes of a number, at a byte.
@@ -69,20 +69,15 @@ pub(crate) fn put(out: &mut [u8], at: usize, v: u32)
     requires { at + 4 ≤ length out.old }
     ensures { out.new ≡ take at out.old ++ bytes v ++ drop (at + 4) out.old }
 {
-    out[at] = (v % 256) as u8;
-    out[at + 1] = (v / 256 % 256) as u8;
-    out[at + 2] = (v / 65_536 % 256) as u8;
-    out[at + 3] = (v / 16_777_216 % 256) as u8;
+    out[at..at + 4].copy_from_slice(&v.to_le_bytes());
 }
 
-// The bytes of n numbers.
-pub(crate) fn put_all(values: &[u32], n: usize, out: &mut [u8])
-    requires { (n ≤ length values.now) × (length out.old ≡ 4 * n) }
-    ensures { out.new ≡ encoded (take n values.now) }
+// The bytes of all numbers.
+pub(crate) fn put_all(values: &[u32], out: &mut [u8])
+    requires { length out.old ≡ 4 * length values.now }
+    ensures { out.new ≡ encoded values.now }
 {
-    let mut i = 0;
-    while i < n {
-        put(out, 4 * i, values[i]);
-        i += 1;
+    for (i, value) in values.iter().enumerate() {
+        put(out, 4 * i, *value);
     }
 }

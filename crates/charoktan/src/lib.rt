@@ -3,12 +3,12 @@
 // `charoktan_c` exports these functions to C and C++ under their names.
 #![tactic(auto)]
 
-ghost use Rattle.std.specs.Prelude.{◌<◌, ◌≡◌};
-ghost use Rattle.subjobs.specs.Reasons.{place_of};
-ghost use Rattle.charoktan.specs.Records.{fitting, fitting_graph, Rooms, GraphWithin, GraphRooms};
-ghost use Rattle.charoktan.specs.Answers.{code, AssignsBytes, ChecksBytes, FindsBytes};
+ghost use Rattle.std.specs.Prelude.{◌≡◌};
+ghost use Rattle.charoktan.specs.Records.{fitting, fitting_graph, Within, GraphWithin};
+ghost use Rattle.charoktan.specs.Answers.{told, Small, AssignsBytes, ChecksBytes, FindsBytes};
 ghost use Rattle.charoktan.specs.Rooms.{room_bytes, RoomsBytes};
 
+use bytes::Fields;
 use checker::Answer as Checked;
 use olda::Answer;
 use subjobs::{Judgement, Reason};
@@ -16,13 +16,18 @@ use subjobs::{Judgement, Reason};
 mod bytes;
 mod rooms;
 
-// The number returned for a refusal.
-fn code(reason: Reason) -> u32
-    requires { place_of reason < 1_024 }
-    ensures { result ≡ code reason }
+// The number returned: 0, or the number of a refusal and above it its place.
+fn told(outcome: Result<(), Reason>) -> u32
+    requires { Small outcome }
+    ensures { result ≡ told outcome }
 {
-    let told = subjobs::tell(reason);
-    told.number + 65_536 * (told.place as u32)
+    match outcome {
+        Ok(()) => 0,
+        Err(reason) => {
+            let told = subjobs::tell(reason);
+            told.number + 65_536 * (told.place as u32)
+        }
+    }
 }
 
 // Whether the bytes are whole records and the results have 4 bytes for each.
@@ -32,76 +37,95 @@ fn fitting(records: &[u8], results: usize) -> bool
     (records.len() % 24 == 0) & (results == 4 * (records.len() / 24))
 }
 
-// The assignment on whole records, with room lent for their fields and for the local deadlines.
-fn assign_in(records: &[u8], deadlines: &mut [u8], fields: &mut [u32], local: &mut [u32]) -> u32
-    requires { Rooms records.now deadlines.old fields.old local.old }
-    ensures { AssignsBytes records.now deadlines.old result deadlines.new }
+// The assignment on whole records, with room for N of them.
+fn assign_within<const N: usize>(records: &[u8], deadlines: &mut [u8]) -> Result<(), Reason>
+    requires { Within records.now deadlines.old N }
+    ensures small { Small result }
+    ensures assigns { AssignsBytes records.now deadlines.old (told result) deadlines.new }
 {
     let n = records.len() / 24;
-    bytes::columns(records, n, fields);
-    let lists = &fields[..];
+    let mut fields = Fields::<N>::new();
+    fields.read(records);
+    let mut local = [0; N];
     let answer = olda::assign(
-        bytes::field(lists, n, 0),
-        bytes::field(lists, n, 1),
-        bytes::field(lists, n, 2),
-        bytes::field(lists, n, 3),
-        bytes::field(lists, n, 4),
-        bytes::field(lists, n, 5),
+        &fields.jobs[..n],
+        &fields.subtasks[..n],
+        &fields.releases[..n],
+        &fields.executions[..n],
+        &fields.deadlines[..n],
+        &fields.criticals[..n],
         &mut local[..n],
     );
     match answer {
-        Answer::Refused(reason) => code(reason),
-        Answer::Nothing => 0,
+        Answer::Refused(reason) => Err(reason),
+        Answer::Nothing => Ok(()),
         Answer::Placed(_) => {
-            bytes::put_all(local, n, deadlines);
-            0
+            bytes::put_all(&local[..n], deadlines);
+            Ok(())
         }
     }
 }
 
-// The assignment: 0, with the deadlines written, or a refusal's number, with every byte left as it was. Up to 8 sub-jobs
-// work in rooms of their own, since these are cleared at each call.
+// The assignment, or why it is refused. Up to 8 sub-jobs work in rooms of their own, since these are cleared at each call.
+fn assign(records: &[u8], deadlines: &mut [u8]) -> Result<(), Reason>
+    ensures small { Small result }
+    ensures assigns { AssignsBytes records.now deadlines.old (told result) deadlines.new }
+{
+    if !fitting(records, deadlines.len()) {
+        return Err(Reason::Lengths);
+    }
+    match records.len() / 24 {
+        0..=8 => assign_within::<8>(records, deadlines),
+        9..=128 => assign_within::<128>(records, deadlines),
+        _ => Err(Reason::TooMany),
+    }
+}
+
+// The assignment: 0, with the deadlines written, or a refusal's number, with every byte left as it was.
 pub fn charoktan_assign(records: &[u8], deadlines: &mut [u8]) -> u32
     ensures { AssignsBytes records.now deadlines.old result deadlines.new }
 {
-    if !fitting(records, deadlines.len()) {
-        return 1;
-    }
-    let n = records.len() / 24;
-    if 128 < n {
-        return 2;
-    }
-    if n <= 8 {
-        let mut fields = [0u32; 48];
-        let mut local = [0u32; 8];
-        return assign_in(records, deadlines, &mut fields, &mut local);
-    }
-    let mut fields = [0u32; 768];
-    let mut local = [0u32; 128];
-    assign_in(records, deadlines, &mut fields, &mut local)
+    told(assign(records, deadlines))
 }
 
-// The checker on whole records, with room lent for their fields and for the proposed deadlines.
-fn check_in(records: &[u8], deadlines: &[u8], fields: &mut [u32], proposed: &mut [u32]) -> u32
-    requires { Rooms records.now deadlines.now fields.old proposed.old }
-    ensures { ChecksBytes records.now deadlines.now result }
+// The checker on whole records, with room for N of them.
+fn check_within<const N: usize>(records: &[u8], deadlines: &[u8]) -> Result<(), Reason>
+    requires { Within records.now deadlines.now N }
+    ensures small { Small result }
+    ensures checks { ChecksBytes records.now deadlines.now (told result) }
 {
     let n = records.len() / 24;
-    bytes::columns(records, n, fields);
-    bytes::column(deadlines, 4, 0, n, proposed);
-    let lists = &fields[..];
+    let mut fields = Fields::<N>::new();
+    fields.read(records);
+    let mut proposed = [0; N];
+    bytes::column::<4>(deadlines, 0, &mut proposed);
     let answer = checker::check(
-        bytes::field(lists, n, 0),
-        bytes::field(lists, n, 1),
-        bytes::field(lists, n, 2),
-        bytes::field(lists, n, 3),
-        bytes::field(lists, n, 4),
-        bytes::field(lists, n, 5),
+        &fields.jobs[..n],
+        &fields.subtasks[..n],
+        &fields.releases[..n],
+        &fields.executions[..n],
+        &fields.deadlines[..n],
+        &fields.criticals[..n],
         &proposed[..n],
     );
     match answer {
-        Checked::Refused(reason) => code(reason),
-        Checked::Accepted => 0,
+        Checked::Refused(reason) => Err(reason),
+        Checked::Accepted => Ok(()),
+    }
+}
+
+// The checker, or why it refuses.
+fn check(records: &[u8], deadlines: &[u8]) -> Result<(), Reason>
+    ensures small { Small result }
+    ensures checks { ChecksBytes records.now deadlines.now (told result) }
+{
+    if !fitting(records, deadlines.len()) {
+        return Err(Reason::Lengths);
+    }
+    match records.len() / 24 {
+        0..=8 => check_within::<8>(records, deadlines),
+        9..=128 => check_within::<128>(records, deadlines),
+        _ => Err(Reason::TooMany),
     }
 }
 
@@ -109,21 +133,7 @@ fn check_in(records: &[u8], deadlines: &[u8], fields: &mut [u32], proposed: &mut
 pub fn charoktan_check(records: &[u8], deadlines: &[u8]) -> u32
     ensures { ChecksBytes records.now deadlines.now result }
 {
-    if !fitting(records, deadlines.len()) {
-        return 1;
-    }
-    let n = records.len() / 24;
-    if 128 < n {
-        return 2;
-    }
-    if n <= 8 {
-        let mut fields = [0u32; 48];
-        let mut proposed = [0u32; 8];
-        return check_in(records, deadlines, &mut fields, &mut proposed);
-    }
-    let mut fields = [0u32; 768];
-    let mut proposed = [0u32; 128];
-    check_in(records, deadlines, &mut fields, &mut proposed)
+    told(check(records, deadlines))
 }
 
 // Whether executions and arcs are whole, and the results have 4 bytes for each execution.
@@ -133,26 +143,27 @@ fn fitting_graph(executions: &[u8], arcs: &[u8], results: usize) -> bool
     (executions.len() % 4 == 0) & (arcs.len() % 12 == 0) & (results == executions.len())
 }
 
-// Critical times of whole executions and arcs, with room lent for what they hold and for the results.
-fn critical_in(
+// Critical times of whole executions and arcs, with room for N sub-jobs and M arcs.
+fn critical_within<const N: usize, const M: usize>(
     executions: &[u8],
     arcs: &[u8],
     results: &mut [u8],
-    times: &mut [u32],
-    befores: &mut [u32],
-    afters: &mut [u32],
-    hops: &mut [u32],
-    local: &mut [u32],
-) -> u32
-    requires { GraphRooms executions.now arcs.now results.old times.old befores.old afters.old hops.old local.old }
-    ensures { FindsBytes executions.now arcs.now results.old result results.new }
+) -> Result<(), Reason>
+    requires { GraphWithin executions.now arcs.now results.old N M }
+    ensures small { Small result }
+    ensures finds { FindsBytes executions.now arcs.now results.old (told result) results.new }
 {
     let n = executions.len() / 4;
     let m = arcs.len() / 12;
-    bytes::column(executions, 4, 0, n, times);
-    bytes::column(arcs, 12, 0, m, befores);
-    bytes::column(arcs, 12, 4, m, afters);
-    bytes::column(arcs, 12, 8, m, hops);
+    let mut times = [0; N];
+    bytes::column::<4>(executions, 0, &mut times);
+    let mut befores = [0; M];
+    bytes::column::<12>(arcs, 0, &mut befores);
+    let mut afters = [0; M];
+    bytes::column::<12>(arcs, 4, &mut afters);
+    let mut hops = [0; M];
+    bytes::column::<12>(arcs, 8, &mut hops);
+    let mut local = [0; N];
     let answer = graph::critical(
         &times[..n],
         &befores[..m],
@@ -161,74 +172,38 @@ fn critical_in(
         &mut local[..n],
     );
     match answer {
-        Judgement::Refused(reason) => code(reason),
+        Judgement::Refused(reason) => Err(reason),
         Judgement::Passed => {
-            bytes::put_all(local, n, results);
-            0
+            bytes::put_all(&local[..n], results);
+            Ok(())
         }
     }
 }
 
-// The same in rooms for up to 16 sub-jobs and 32 arcs: rooms are cleared at each call.
-fn critical_few(executions: &[u8], arcs: &[u8], results: &mut [u8]) -> u32
-    requires { GraphWithin executions.now arcs.now results.old 16 32 }
-    ensures { FindsBytes executions.now arcs.now results.old result results.new }
+// Critical times from a graph, or why it is refused. Up to 16 sub-jobs and 32 arcs have rooms of their own.
+fn critical(executions: &[u8], arcs: &[u8], results: &mut [u8]) -> Result<(), Reason>
+    ensures small { Small result }
+    ensures finds { FindsBytes executions.now arcs.now results.old (told result) results.new }
 {
-    let mut times = [0u32; 16];
-    let mut befores = [0u32; 32];
-    let mut afters = [0u32; 32];
-    let mut hops = [0u32; 32];
-    let mut local = [0u32; 16];
-    critical_in(
-        executions,
-        arcs,
-        results,
-        &mut times,
-        &mut befores,
-        &mut afters,
-        &mut hops,
-        &mut local,
-    )
-}
-
-// And in rooms for as many as there may be.
-fn critical_many(executions: &[u8], arcs: &[u8], results: &mut [u8]) -> u32
-    requires { GraphWithin executions.now arcs.now results.old 128 1024 }
-    ensures { FindsBytes executions.now arcs.now results.old result results.new }
-{
-    let mut times = [0u32; 128];
-    let mut befores = [0u32; 1_024];
-    let mut afters = [0u32; 1_024];
-    let mut hops = [0u32; 1_024];
-    let mut local = [0u32; 128];
-    critical_in(
-        executions,
-        arcs,
-        results,
-        &mut times,
-        &mut befores,
-        &mut afters,
-        &mut hops,
-        &mut local,
-    )
+    if !fitting_graph(executions, arcs, results.len()) {
+        return Err(Reason::Lengths);
+    }
+    let n = executions.len() / 4;
+    let m = arcs.len() / 12;
+    if n <= 16 && m <= 32 {
+        return critical_within::<16, 32>(executions, arcs, results);
+    }
+    if n <= 128 && m <= 1_024 {
+        return critical_within::<128, 1_024>(executions, arcs, results);
+    }
+    Err(Reason::TooMany)
 }
 
 // Critical times from a graph: 0, with the results written, or a refusal's number, with every byte left as it was.
 pub fn charoktan_critical(executions: &[u8], arcs: &[u8], results: &mut [u8]) -> u32
     ensures { FindsBytes executions.now arcs.now results.old result results.new }
 {
-    if !fitting_graph(executions, arcs, results.len()) {
-        return 1;
-    }
-    let n = executions.len() / 4;
-    let m = arcs.len() / 12;
-    if !((n <= 128) & (m <= 1_024)) {
-        return 2;
-    }
-    if (n <= 16) & (m <= 32) {
-        return critical_few(executions, arcs, results);
-    }
-    critical_many(executions, arcs, results)
+    told(critical(executions, arcs, results))
 }
 
 // The sets of a room: 0, with each set's number and place written and the deadlines of those that are accepted; or a
@@ -244,18 +219,7 @@ pub fn charoktan_room(
         numbers.old places.old)
         result deadlines.new numbers.new places.new }
 {
-    if !rooms::fitting(
-        records,
-        lengths,
-        deadlines.len(),
-        numbers.len(),
-        places.len(),
-    ) {
-        return 1;
-    }
-    if !((lengths.len() / 4 <= 32) & (records.len() / 24 <= 4_096)) {
-        return 22;
-    }
-    rooms::assign_each(records, lengths, deadlines, numbers, places);
-    0
+    told(rooms::assign(
+        records, lengths, deadlines, numbers, places,
+    ))
 }

@@ -2,44 +2,29 @@
 ghost use Rattle.std.specs.Prelude.{◌+◌, ◌*◌, ◌/◌, ◌<◌, ◌≡◌, eqb, length, get_or};
 ghost use Rattle.lists.specs.Places.{total};
 ghost use Rattle.stretches.specs.Stretches.{replaced};
-ghost use Rattle.charoktan.specs.Rooms.{words_of, code_at, bytes_at, fitting_room, Stretch, Reads, AllRoomed};
+ghost use Rattle.charoktan.specs.Answers.{told, Small};
+ghost use Rattle.charoktan.specs.Rooms.{room_bytes, RoomsBytes, words_of, code_at, bytes_at, fitting_room, Stretch, Reads, AllRoomed};
 
 use crate::bytes;
-
-// A 32-bit number as a number of places.
-fn index(x: u32) -> usize
-    ensures { result ≡ x }
-{
-    x as usize
-}
-
-// The length of set k.
-fn length_at(lengths: &[u8], k: usize) -> usize
-    requires { k < length lengths.now / 4 }
-    ensures { result ≡ get_or (words_of lengths.now) k 0 }
-{
-    index(bytes::word(lengths, 4 * k))
-}
+use subjobs::Reason;
 
 // Whether lengths add up to the number of records. They are taken off it, so no sum can wrap.
 fn adds_up(lengths: &[u8], records: usize) -> bool
     ensures { result ≡ eqb (total (words_of lengths.now)) records }
 {
+    let (lengths, _) = lengths.as_chunks::<4>();
     let mut left = records;
-    let mut k = 0;
-    while k < lengths.len() / 4 {
-        let count = length_at(lengths, k);
-        if left < count {
+    for length in lengths {
+        let Some(rest) = left.checked_sub(u32::from_le_bytes(*length) as usize) else {
             return false;
-        }
-        left -= count;
-        k += 1;
+        };
+        left = rest;
     }
     left == 0
 }
 
 // Whether the bytes are those of whole lists of one length each, and the lengths add up.
-pub(crate) fn fitting(
+fn fitting(
     records: &[u8],
     lengths: &[u8],
     deadlines: usize,
@@ -70,7 +55,7 @@ fn assign_at(records: &[u8], start: usize, count: usize, deadlines: &mut [u8]) -
 }
 
 // Every set in turn, whatever became of those before it.
-pub(crate) fn assign_each(
+fn assign_each(
     records: &[u8],
     lengths: &[u8],
     deadlines: &mut [u8],
@@ -81,14 +66,42 @@ pub(crate) fn assign_each(
     ensures { AllRoomed records.now lengths.now deadlines.old
         deadlines.new numbers.new places.new }
 {
+    let (lengths, _) = lengths.as_chunks::<4>();
     let mut start = 0;
-    let mut k = 0;
-    while k < lengths.len() / 4 {
-        let count = length_at(lengths, k);
+    for (k, length) in lengths.iter().enumerate() {
+        let count = u32::from_le_bytes(*length) as usize;
         let code = assign_at(records, start, count, deadlines);
         bytes::put(numbers, 4 * k, code % 65_536);
         bytes::put(places, 4 * k, code / 65_536);
         start += count;
-        k += 1;
     }
+}
+
+// The sets of a room, or why the whole is refused.
+pub(crate) fn assign(
+    records: &[u8],
+    lengths: &[u8],
+    deadlines: &mut [u8],
+    numbers: &mut [u8],
+    places: &mut [u8],
+) -> Result<(), Reason>
+    ensures small { Small result }
+    ensures rooms { RoomsBytes (room_bytes records.now lengths.now deadlines.old
+        numbers.old places.old)
+        (told result) deadlines.new numbers.new places.new }
+{
+    if !fitting(
+        records,
+        lengths,
+        deadlines.len(),
+        numbers.len(),
+        places.len(),
+    ) {
+        return Err(Reason::Lengths);
+    }
+    if 32 < lengths.len() / 4 || 4_096 < records.len() / 24 {
+        return Err(Reason::TooLarge);
+    }
+    assign_each(records, lengths, deadlines, numbers, places);
+    Ok(())
 }
