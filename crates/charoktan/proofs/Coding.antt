@@ -12,8 +12,7 @@ use Rattle.lists.proofs.Cases.{test, tests}
 use Rattle.std.specs.Int.{from_le_bytes}
 use Rattle.std.specs.Simd.{first_chunks}
 use mir.Syntax.{w32}
-use Rattle.subjobs.specs.Sets.{Subjobs, subjobs}
-use Rattle.charoktan.specs.Records.{bytes, column, encoded, front, word, words}
+use Rattle.charoktan.specs.Records.{bytes, column, encoded, word, words}
 
 -- What std reads from four bytes is the number there.
 pub word-from_le_bytes : (r : List ℕ) → from_le_bytes w32 r ≡ word r 0
@@ -40,7 +39,7 @@ pub word-record :
     → word r at ≡ word bs (w * i + at)
 word-record bs rs w k i at d r q h b e = rw (e, q, record_at w k i bs d h) (word-part bs (w * i) w at b)
 
--- One more number read from records of w bytes,
+-- One more number read from records of w bytes.
 pub column_more :
     (bs out : List ℕ) (rs : List (List ℕ)) (d r : List ℕ) (w k n i v : ℕ)
     → rs ≡ first_chunks w n bs
@@ -54,35 +53,6 @@ pub column_more :
 unfolding column
 column_more bs out rs d r w k n i v q l b h e p z =
     rw (add-one, take-suc-set out i v h, e, z ∙ word-record bs rs w n i k d r q l b p)
-
--- and one more record: the first n of them.
-abbrev pub first : List ℕ → ℕ → Subjobs
-first bs n =
-    subjobs (column bs 24 0 n) (column bs 24 4 n) (column bs 24 8 n) (column bs 24 12 n) (column bs 24 16 n) (column bs 24 20 n)
-
-pub record_more :
-    (bs : List ℕ) (rs : List (List ℕ)) (n i : ℕ) (s : Subjobs) (a b c d e f : ℕ)
-    → rs ≡ first_chunks 24 n bs
-    → i < n
-    → (i < length s.jobs) × (i < length s.subtasks) × (i < length s.releases) × (i < length s.executions) × (i < length s.deadlines) × (i < length s.criticals)
-    → front i s ≡ first bs i
-    → a ≡ word (get_or rs i []) 0
-    → b ≡ word (get_or rs i []) 4
-    → c ≡ word (get_or rs i []) 8
-    → d ≡ word (get_or rs i []) 12
-    → e ≡ word (get_or rs i []) 16
-    → f ≡ word (get_or rs i []) 20
-    → front (i + 1) (subjobs (set s.jobs i a) (set s.subtasks i b) (set s.releases i c) (set s.executions i d) (set s.deadlines i e) (set s.criticals i f))
-    ≡ first bs (i + 1)
-record_more bs rs n i s a b c d e f r h l q qa qb qc qd qe qf =
-    rw (
-      column_more bs s.jobs rs [] _ 24 0 n i a r h (omega arith) l.0 (ap (λ (x : Subjobs). x.jobs) q) refl qa,
-      column_more bs s.subtasks rs [] _ 24 4 n i b r h (omega arith) l.1 (ap (λ (x : Subjobs). x.subtasks) q) refl qb,
-      column_more bs s.releases rs [] _ 24 8 n i c r h (omega arith) l.2 (ap (λ (x : Subjobs). x.releases) q) refl qc,
-      column_more bs s.executions rs [] _ 24 12 n i d r h (omega arith) l.3 (ap (λ (x : Subjobs). x.executions) q) refl qd,
-      column_more bs s.deadlines rs [] _ 24 16 n i e r h (omega arith) l.4 (ap (λ (x : Subjobs). x.deadlines) q) refl qe,
-      column_more bs s.criticals rs [] _ 24 20 n i f r h (omega arith) l.5 (ap (λ (x : Subjobs). x.criticals) q) refl qf,
-    )
 
 pub length-column : (bs : List ℕ) (w k n : ℕ) → length (column bs w k n) ≡ n
 unfolding column

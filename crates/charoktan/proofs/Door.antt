@@ -8,6 +8,8 @@ use borrow.Author.Tests.{eq-eqb, eqb-true}
 use lib.Dec.{eqb}
 use lib.ListN.{length, take, drop, replicate, length-replicate}
 use lib.Seq.{take_at}
+use Rattle.std.specs.Prelude.{Result}
+use Rattle.subjobs.specs.declared.Reason.{Reason}
 use Rattle.lists.proofs.Cases.{test, both}
 use Rattle.lists.proofs.Mapped.{take-replicate}
 use Rattle.subjobs.specs.declared.Judgement.TheVariants as judged
@@ -20,14 +22,14 @@ use Rattle.subjobs.proofs.Fit.{judged_exactly}
 use Rattle.subjobs.proofs.Reported.{number_range}
 use Rattle.olda.specs.declared.Answer.{Answer}
 use Rattle.olda.specs.declared.Answer.TheVariants.{Placed, Nothing, Refused}
-use Rattle.olda.specs.Answers.{answer, results, Assigns}
+use Rattle.olda.specs.Answers.{answer, results}
 use Rattle.olda.proofs.Results.{results-length, refused_within}
 use Rattle.checker.specs.declared.Answer as checker
 use Rattle.checker.specs.declared.Answer.TheVariants as check
 use Rattle.checker.specs.Answers as checkers
 use Rattle.checker.specs.Answers.{Checks}
 use Rattle.charoktan.specs.Records.{column, words, count, records, encoded, fitting, Within}
-use Rattle.charoktan.specs.Answers.{checking, checked, placing, assigned, if_placed, assigned_bytes, AssignsBytes, ChecksBytes}
+use Rattle.charoktan.specs.Answers.{told, checking, checked, placing, assigned, if_placed, assigned_bytes, AssignsSet, AssignsBytes, ChecksBytes}
 use Rattle.charoktan.proofs.Coding.{length-column, length-encoded}
 
 -- The lengths that fit: 4 bytes of results for each record.
@@ -93,22 +95,17 @@ place_small bs m = test (fitting bs m) (λ e. rw e (by_answer (answer (records b
     by_answer Nothing q = omega arith
     by_answer (Refused r) q = omega (arith, refused_within (records bs) (count bs) r q, (number_range r).1)
 
--- What the assignment answers and leaves within rooms for n records is what the door is held to.
+-- What comes of the assignment of the set that the bytes hold, in a room of zeros, is what the door is held to.
 pub assigned_within :
-    (bs out : List ℕ) (n : ℕ) (s : Subjobs) (r : Answer) (l : List ℕ)
+    (bs out : List ℕ) (n : ℕ) (s : Subjobs) (r : Result Unit Reason) (out' : List ℕ)
     → Within bs out n
     → s ≡ records bs
-    → Assigns s (take (count bs) (replicate n 0)) r l
-    → (a : Answer)
-    → r ≡ a
-    → (answer (records bs) (count bs) ≡ a) × (length l ≡ count bs) × AssignsBytes bs out (placing a) (if_placed a (encoded l) out)
-assigned_within bs out n s r l W e h a q =
+    → AssignsSet s (take (count bs) (replicate n 0)) out r out'
+    → AssignsBytes bs out (told r) out'
+unfolding assigned assigned_bytes
+assigned_within bs out n s r out' W e h =
     let t : take (count bs) (replicate n 0) ≡ replicate (count bs) 0 = take-replicate (count bs) n 0 W.few in
-    let k : length (replicate (count bs) 0) ≡ count bs = length-replicate {A = ℕ} (count bs) 0 in
-    let w : answer (records bs) (count bs) ≡ a = sym (h.0 ∙ rw (e, t, k)) ∙ q in
-    let z : l ≡ results (records bs) (replicate (count bs) 0) = h.1 ∙ rw (e, t) in
-    let d = answered bs out W.fits a w in
-    (w, ap length z ∙ results-length (records bs) (replicate (count bs) 0) ∙ k, (sym d.0, rw z (sym d.1)))
+    rw (W.fits) (rw (e, t, length-replicate {A = ℕ}) at h)
 
 module _ (bs ds : List ℕ) where
   pub unfit_check : fitting bs (length ds) ≡ false → checked bs ds ≡ 1
@@ -127,18 +124,17 @@ module _ (bs ds : List ℕ) where
         answered_check (check.Refused TooMany)
         (rw (judged_many bs (eqb (length (words ds (count bs))) (size (records bs))) (eq-eqb _ _ (length-column ds 4 0 (count bs) ∙ sym (size-records bs))) h))
 
--- The same for the checker.
+-- What the checker answers on what the bytes hold is what the door is held to.
 pub checked_within :
-    (bs ds : List ℕ) (n : ℕ) (s : Subjobs) (l p : List ℕ) (r : checker.Answer)
+    (bs ds : List ℕ) (n : ℕ) (s : Subjobs) (l : List ℕ) (r : checker.Answer)
     → Within bs ds n
     → s ≡ records bs
-    → take (length ds / 4) p ≡ column ds 4 0 (length ds / 4)
-    → l ≡ take (count bs) p
+    → l ≡ column ds 4 0 (length ds / 4)
     → Checks s l r
     → (a : checker.Answer)
     → r ≡ a
     → (checkers.answer (records bs) (words ds (count bs)) ≡ a) × ChecksBytes bs ds (checking a)
-checked_within bs ds n s l p r W e f z h a q =
+checked_within bs ds n s l r W e z h a q =
     let k : length ds / 4 ≡ count bs = omega (arith, fit_length bs (length ds) W.fits) in
-    let w : checkers.answer (records bs) (words ds (count bs)) ≡ a = sym (h ∙ rw (e, z ∙ rw k at f)) ∙ q in
+    let w : checkers.answer (records bs) (words ds (count bs)) ≡ a = sym (h ∙ rw (e, z, k)) ∙ q in
     (w, sym (answered_check bs ds W.fits a w))

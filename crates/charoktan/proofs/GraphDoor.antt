@@ -73,7 +73,7 @@ module _ (es bs : List ℕ) where
           ((refused_exactly (graph_of es bs) (length es / 4) TooMany).1
           (faults.many (record { results = sym (length-column es 4 0 (length es / 4)); afters = l 4; hops = l 8 }) n))
 
--- What the graph's entry answers and leaves within rooms for n sub-jobs and m arcs is what the door is held to.
+-- What the graph's entry answers and leaves in a room of zeros is what the door is held to.
 pub found_within :
     (es bs out : List ℕ) (n m : ℕ) (g : Graph) (r : Judgement) (l : List ℕ)
     → GraphWithin es bs out n m
@@ -81,13 +81,10 @@ pub found_within :
     → Finds g (take (length es / 4) (replicate n 0)) r l
     → (a : Judgement)
     → r ≡ a
-    → (answer (graph_of es bs) (length es / 4) ≡ a)
-    × (length l ≡ length es / 4)
-    × FindsBytes es bs out (if_passed a 0 code) (if_passed a (encoded l) (λ r. out))
+    → (answer (graph_of es bs) (length es / 4) ≡ a) × FindsBytes es bs out (if_passed a 0 code) (if_passed a (encoded l) (λ r. out))
 found_within es bs out n m g r l W e h a q =
-    let t : take (length es / 4) (replicate n 0) ≡ replicate (length es / 4) 0 = take-replicate (length es / 4) n 0 W.few in
-    let k : length (replicate (length es / 4) 0) ≡ length es / 4 = length-replicate {A = ℕ} (length es / 4) 0 in
-    let w : answer (graph_of es bs) (length es / 4) ≡ a = sym (h.0 ∙ rw (e, t, k)) ∙ q in
-    let z : l ≡ results (graph_of es bs) (replicate (length es / 4) 0) = h.1 ∙ rw (e, t) in
-    let d = graph_answered es bs out W.fits a w in
-    (w, ap length z ∙ results-length (graph_of es bs) (replicate (length es / 4) 0) ∙ k, (sym d.0, rw z (sym d.1)))
+    let k = length es / 4 in
+    let t : take k (replicate n 0) ≡ replicate k 0 = take-replicate k n 0 W.few in
+    let w : answer (graph_of es bs) k ≡ a = sym (h.0 ∙ rw (e, t, length-replicate {A = ℕ} k 0)) ∙ q in
+    let z : l ≡ results (graph_of es bs) (replicate k 0) = h.1 ∙ rw (e, t) in
+    let d = graph_answered es bs out W.fits a w in (w, (sym d.0, rw z (sym d.1)))

@@ -10,6 +10,7 @@
 use Rattle.std.specs.Prelude.{ℕ, ◌+◌, ◌*◌, ◌/◌, ◌<◌, cond, List, ◌≡◌, length, replicate, Result, Ok, Err}
 use Rattle.subjobs.specs.Judging.{if_passed}
 use Rattle.subjobs.specs.declared.Reason.{Reason}
+use Rattle.subjobs.specs.Sets.{Subjobs}
 use Rattle.subjobs.specs.Reasons.{number_of, place_of}
 use Rattle.olda.specs.declared.Answer as olda
 use Rattle.olda.specs.declared.Answer.TheVariants.{Placed, Nothing, Refused}
@@ -60,6 +61,11 @@ assigned_bytes bs out =
 unfoldable pub checked : List ℕ → List ℕ → ℕ
 checked bs ds =
     cond (fitting bs (length ds)) (checking (checkers.answer (records bs) (words ds (count bs)))) 1
+
+-- What the assignment of a set comes to, if its results go from the list l into bytes.
+abbrev pub AssignsSet : Subjobs → (l out : List ℕ) → Result Unit Reason → List ℕ → Type 0
+AssignsSet s l out r out' =
+    (told r ≡ placing (answer s (length l))) × (out' ≡ if_placed (answer s (length l)) (encoded (results s l)) out)
 
 -- What `charoktan_assign` is held to: the number returned, and what the results hold afterwards.
 abbrev pub AssignsBytes : (bs out : List ℕ) → ℕ → List ℕ → Type 0

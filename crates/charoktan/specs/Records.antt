@@ -3,8 +3,7 @@
 --   word bs at       == the 32-bit little-endian number at byte at
 --   column bs w k n  == the numbers at byte k of each of n records of w bytes
 --   records bs       == the set that the bytes hold
---   lists f          == the lists of six fields
---   front n s        == the first n places of each list
+--   set_of l         == the set whose six lists are lent
 --   bytes v          == the four bytes of a number, little-endian
 --   encoded vs       == the bytes of a list of numbers
 --   words bs n       == the n numbers that these bytes hold
@@ -13,10 +12,10 @@
 --   graph_of es as    == the graph whose executions and arcs the bytes hold
 --   fitting_graph es as m == their lengths fit: whole executions and arcs, and m bytes of results
 --   GraphWithin es as out n m == the lengths fit n sub-jobs and m arcs at most
-use Rattle.std.specs.Prelude.{ℕ, zero, suc, ◌+◌, ◌*◌, ◌/◌, ◌%◌, ◌≤◌, ◌<◌, Bool, true, ◌&&◌, List, [], ◌∷◌, ◌++◌, ◌≡◌, eqb, length, get_or, take, replicate}
+use Rattle.std.specs.Prelude.{ℕ, zero, suc, ◌+◌, ◌*◌, ◌/◌, ◌%◌, ◌≤◌, ◌<◌, Bool, true, ◌&&◌, List, [], ◌∷◌, ◌++◌, ◌≡◌, eqb, length, get_or}
 use Rattle.subjobs.specs.Sets.{Subjobs, subjobs}
 use Rattle.graph.specs.Graphs.{Graph, graph}
-use Rattle.charoktan.specs.declared.bytes.Fields.{Fields}
+use Rattle.charoktan.specs.declared.bytes.Lists.{Lists}
 
 abbrev pub word : List ℕ → ℕ → ℕ
 word bs at =
@@ -36,13 +35,9 @@ records bs =
     let field : ℕ → List ℕ = λ k. column bs 24 k (count bs) in
     subjobs (field 0) (field 4) (field 8) (field 12) (field 16) (field 20)
 
--- the six fields that the code has read
-abbrev pub lists : {N : ℕ} → Fields N → Subjobs
-lists f = subjobs f.jobs f.subtasks f.releases f.executions f.deadlines f.criticals
-
-abbrev pub front : ℕ → Subjobs → Subjobs
-front n s =
-    subjobs (take n s.jobs) (take n s.subtasks) (take n s.releases) (take n s.executions) (take n s.deadlines) (take n s.criticals)
+-- the set whose lists are lent
+abbrev pub set_of : Lists → Subjobs
+set_of f = subjobs f.jobs.now f.subtasks.now f.releases.now f.executions.now f.deadlines.now f.criticals.now
 
 -- results are 4 bytes little-endian each
 abbrev pub bytes : ℕ → List ℕ
@@ -75,6 +70,7 @@ graph_of es arcs =
 abbrev pub fitting_graph : (es arcs : List ℕ) → ℕ → Bool
 fitting_graph es arcs m = eqb (length es % 4) 0 && eqb (length arcs % 12) 0 && eqb m (length es)
 
+-- What the work on a whole graph is held to: there is room for n sub-jobs and m arcs.
 pub record GraphWithin (es arcs out : List ℕ) (n m : ℕ) : Type 0 where
   pub fits : fitting_graph es arcs (length out) ≡ true
   pub few : length es / 4 ≤ n

@@ -1,6 +1,6 @@
 // Numbers in the engine's bytes, 32 bits little-endian.
 ghost use Rattle.std.specs.Prelude.{◌+◌, ◌*◌, ◌/◌, ◌≤◌, ◌≡◌, ◌++◌, length, take, drop};
-ghost use Rattle.charoktan.specs.Records.{word, column, count, lists, front, records, bytes, encoded};
+ghost use Rattle.charoktan.specs.Records.{word, column, count, set_of, records, bytes, encoded};
 
 // The number whose four bytes begin at a byte.
 fn word(bytes: &[u8], at: usize) -> u32
@@ -10,32 +10,47 @@ fn word(bytes: &[u8], at: usize) -> u32
     u32::from_le_bytes([bytes[at], bytes[at + 1], bytes[at + 2], bytes[at + 3]])
 }
 
-// One number of each record of WIDTH bytes, the one at byte `at` of it.
-pub(crate) fn column<const WIDTH: usize>(bytes: &[u8], at: usize, out: &mut [u32])
+// One number of each record of WIDTH bytes, the one at byte `at` of it: read into a room, and lent from there.
+pub(crate) fn column<'a, const WIDTH: usize>(
+    bytes: &[u8],
+    at: usize,
+    room: &'a mut [u32],
+) -> &'a [u32]
     requires inside { at + 4 ≤ WIDTH }
     requires narrow { WIDTH ≤ 24 }
-    requires room { length bytes.now / WIDTH ≤ length out.old }
-    ensures { take (length bytes.now / WIDTH) out.new ≡ column bytes.now WIDTH at (length bytes.now / WIDTH) }
+    requires room { length bytes.now / WIDTH ≤ length room.old }
+    ensures { result.now ≡ column bytes.now WIDTH at (length bytes.now / WIDTH) }
 {
     let (records, _) = bytes.as_chunks::<WIDTH>();
     for (i, record) in records.iter().enumerate() {
-        out[i] = word(record, at);
+        room[i] = word(record, at);
     }
+    &room[..records.len()]
 }
 
-// The six fields of up to N records, a list each.
+// The six lists of a set, lent.
+#[derive(Clone, Copy)]
+pub(crate) struct Lists<'a> {
+    pub(crate) jobs: &'a [u32],
+    pub(crate) subtasks: &'a [u32],
+    pub(crate) releases: &'a [u32],
+    pub(crate) executions: &'a [u32],
+    pub(crate) deadlines: &'a [u32],
+    pub(crate) criticals: &'a [u32],
+}
+
+// Room for the six fields of N records.
 #[derive(Drop)]
 pub(crate) struct Fields<const N: usize> {
-    pub(crate) jobs: [u32; N],
-    pub(crate) subtasks: [u32; N],
-    pub(crate) releases: [u32; N],
-    pub(crate) executions: [u32; N],
-    pub(crate) deadlines: [u32; N],
-    pub(crate) criticals: [u32; N],
+    jobs: [u32; N],
+    subtasks: [u32; N],
+    releases: [u32; N],
+    executions: [u32; N],
+    deadlines: [u32; N],
+    criticals: [u32; N],
 }
 
 impl<const N: usize> Fields<N> {
-    // Room for N records.
     pub(crate) fn new() -> Fields<N> {
         Fields {
             jobs: [0; N],
@@ -47,10 +62,10 @@ impl<const N: usize> Fields<N> {
         }
     }
 
-    // Reads records of 24 bytes, one place of each list after the other.
-    pub(crate) fn read(&mut self, bytes: &[u8])
+    // The set that records of 24 bytes hold: read into the room, and lent from there.
+    pub(crate) fn read(&mut self, bytes: &[u8]) -> Lists<'_>
         requires { count bytes.now ≤ N }
-        ensures { front (count bytes.now) (lists self.new) ≡ records bytes.now }
+        ensures { set_of result ≡ records bytes.now }
     {
         let (records, _) = bytes.as_chunks::<24>();
         for (i, record) in records.iter().enumerate() {
@@ -60,6 +75,15 @@ impl<const N: usize> Fields<N> {
             self.executions[i] = word(record, 12);
             self.deadlines[i] = word(record, 16);
             self.criticals[i] = word(record, 20);
+        }
+        let n = records.len();
+        Lists {
+            jobs: &self.jobs[..n],
+            subtasks: &self.subtasks[..n],
+            releases: &self.releases[..n],
+            executions: &self.executions[..n],
+            deadlines: &self.deadlines[..n],
+            criticals: &self.criticals[..n],
         }
     }
 }

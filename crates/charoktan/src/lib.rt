@@ -3,12 +3,12 @@
 // `charoktan_c` exports these functions to C and C++ under their names.
 #![tactic(auto)]
 
-ghost use Rattle.std.specs.Prelude.{◌≡◌};
-ghost use Rattle.charoktan.specs.Records.{fitting, fitting_graph, Within, GraphWithin};
-ghost use Rattle.charoktan.specs.Answers.{told, Small, AssignsBytes, ChecksBytes, FindsBytes};
+ghost use Rattle.std.specs.Prelude.{◌*◌, ◌≡◌, length};
+ghost use Rattle.charoktan.specs.Records.{set_of, fitting, fitting_graph, Within, GraphWithin};
+ghost use Rattle.charoktan.specs.Answers.{told, Small, AssignsSet, AssignsBytes, ChecksBytes, FindsBytes};
 ghost use Rattle.charoktan.specs.Rooms.{room_bytes, RoomsBytes};
 
-use bytes::Fields;
+use bytes::{Fields, Lists};
 use checker::Answer as Checked;
 use olda::Answer;
 use subjobs::{Judgement, Reason};
@@ -37,33 +37,44 @@ fn fitting(records: &[u8], results: usize) -> bool
     (records.len() % 24 == 0) & (results == 4 * (records.len() / 24))
 }
 
+// The assignment of a set, with a list lent for its results, into bytes. Both sizes of rooms call it, so that there is one
+// copy of the assignment, which is built into it.
+fn assign_set(set: Lists, local: &mut [u32], deadlines: &mut [u8]) -> Result<(), Reason>
+    requires { length deadlines.old ≡ 4 * length local.old }
+    ensures small { Small result }
+    ensures assigns { AssignsSet (set_of set.entry) local.old deadlines.old result deadlines.new }
+{
+    match olda::assign(
+        set.jobs,
+        set.subtasks,
+        set.releases,
+        set.executions,
+        set.deadlines,
+        set.criticals,
+        local,
+    ) {
+        Answer::Refused(reason) => Err(reason),
+        Answer::Nothing => Ok(()),
+        Answer::Placed(_) => {
+            bytes::put_all(local, deadlines);
+            Ok(())
+        }
+    }
+}
+
 // The assignment on whole records, with room for N of them.
 fn assign_within<const N: usize>(records: &[u8], deadlines: &mut [u8]) -> Result<(), Reason>
     requires { Within records.now deadlines.old N }
     ensures small { Small result }
     ensures assigns { AssignsBytes records.now deadlines.old (told result) deadlines.new }
 {
-    let n = records.len() / 24;
     let mut fields = Fields::<N>::new();
-    fields.read(records);
     let mut local = [0; N];
-    let answer = olda::assign(
-        &fields.jobs[..n],
-        &fields.subtasks[..n],
-        &fields.releases[..n],
-        &fields.executions[..n],
-        &fields.deadlines[..n],
-        &fields.criticals[..n],
-        &mut local[..n],
-    );
-    match answer {
-        Answer::Refused(reason) => Err(reason),
-        Answer::Nothing => Ok(()),
-        Answer::Placed(_) => {
-            bytes::put_all(&local[..n], deadlines);
-            Ok(())
-        }
-    }
+    assign_set(
+        fields.read(records),
+        &mut local[..records.len() / 24],
+        deadlines,
+    )
 }
 
 // The assignment, or why it is refused. Up to 8 sub-jobs work in rooms of their own, since these are cleared at each call.
@@ -94,21 +105,18 @@ fn check_within<const N: usize>(records: &[u8], deadlines: &[u8]) -> Result<(), 
     ensures small { Small result }
     ensures checks { ChecksBytes records.now deadlines.now (told result) }
 {
-    let n = records.len() / 24;
     let mut fields = Fields::<N>::new();
-    fields.read(records);
+    let set = fields.read(records);
     let mut proposed = [0; N];
-    bytes::column::<4>(deadlines, 0, &mut proposed);
-    let answer = checker::check(
-        &fields.jobs[..n],
-        &fields.subtasks[..n],
-        &fields.releases[..n],
-        &fields.executions[..n],
-        &fields.deadlines[..n],
-        &fields.criticals[..n],
-        &proposed[..n],
-    );
-    match answer {
+    match checker::check(
+        set.jobs,
+        set.subtasks,
+        set.releases,
+        set.executions,
+        set.deadlines,
+        set.criticals,
+        bytes::column::<4>(deadlines, 0, &mut proposed),
+    ) {
         Checked::Refused(reason) => Err(reason),
         Checked::Accepted => Ok(()),
     }
@@ -153,28 +161,22 @@ fn critical_within<const N: usize, const M: usize>(
     ensures small { Small result }
     ensures finds { FindsBytes executions.now arcs.now results.old (told result) results.new }
 {
-    let n = executions.len() / 4;
-    let m = arcs.len() / 12;
     let mut times = [0; N];
-    bytes::column::<4>(executions, 0, &mut times);
     let mut befores = [0; M];
-    bytes::column::<12>(arcs, 0, &mut befores);
     let mut afters = [0; M];
-    bytes::column::<12>(arcs, 4, &mut afters);
     let mut hops = [0; M];
-    bytes::column::<12>(arcs, 8, &mut hops);
     let mut local = [0; N];
-    let answer = graph::critical(
-        &times[..n],
-        &befores[..m],
-        &afters[..m],
-        &hops[..m],
-        &mut local[..n],
-    );
-    match answer {
+    let local = &mut local[..executions.len() / 4];
+    match graph::critical(
+        bytes::column::<4>(executions, 0, &mut times),
+        bytes::column::<12>(arcs, 0, &mut befores),
+        bytes::column::<12>(arcs, 4, &mut afters),
+        bytes::column::<12>(arcs, 8, &mut hops),
+        local,
+    ) {
         Judgement::Refused(reason) => Err(reason),
         Judgement::Passed => {
-            bytes::put_all(&local[..n], results);
+            bytes::put_all(local, results);
             Ok(())
         }
     }

@@ -5,4 +5,4 @@ use Rattle.charoktan.specs.Records.{column}
 use Rattle.charoktan.proofs.bytes.column.Given as goal
 
 abbrev pub invariant-loop-i : goal.invariant-loop-i
-invariant-loop-i g l = take l.i l.out ≡ column l.bytes g.row.WIDTH l.at l.i
+invariant-loop-i g l = take l.i l.room ≡ column l.bytes g.row.WIDTH l.at l.i
