@@ -6,8 +6,8 @@ use native.Mathlib.Nat.{mul-suc, mul-zero}
 use native.Mathlib.Numerals.{add-one}
 use native.Mathlib.Omega.{arith}
 use lib.Dec.{ltb}
-use lib.ListN.{length, get_or, set, take, drop, length-append, length-take, length-drop, drop_of_length-le, get_or-append}
-use lib.Seq.{take-suc-set, take-suc, take_at, get_or_at, get_or-take, get_or-drop, take_all, length-take-le, drop-append-add, drop-drop}
+use lib.ListN.{length, get_or, set, take, drop, length-append, length-take, drop_of_length-le, get_or-append}
+use lib.Seq.{take-suc-set, take-suc, take_at, get_or_at, get_or-take, get_or-drop, take_all, drop-append-add, drop-drop}
 use Rattle.lists.proofs.Cases.{test, tests}
 use Rattle.std.specs.Int.{from_le_bytes}
 use Rattle.std.specs.Simd.{first_chunks}
@@ -156,12 +156,6 @@ unfolding encoded
 put_none vs old l = record { most = omega arith; long = l; done = refl }
 
 module _ {vs old out : List ℕ} {k : ℕ} (P : Put vs old out k) where
-  pub put_length : length out ≡ length old
-  put_length =
-      ap length P.done
-      ∙ length-append (encoded (take k vs)) (drop (4 * k) old)
-      ∙ omega (arith, length-encoded (take k vs), length-take-le k vs P.most, length-drop (4 * k) old, P.most, P.long)
-
   pub put_next :
       {v : ℕ} {out' : List ℕ}
       → k < length vs

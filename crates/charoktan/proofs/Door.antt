@@ -1,13 +1,12 @@
 -- The door's ways out: lengths that do not fit, too many records, and what the assignment or the checker answers.
-use Prim.Native.Nat.{ℕ, ◌*◌, ◌/◌, ◌%◌, ◌≤◌, ◌<◌}
+use Prim.Native.Nat.{ℕ, ◌*◌, ◌/◌, ◌%◌, ◌<◌}
 use mathlib.Core.Bool.{Bool, true, false}
-use mathlib.Core.List.{List, ◌++◌}
+use mathlib.Core.List.{List}
 use mathlib.Core.Path.{◌≡◌, refl, sym, ap, ◌∙◌}
 use native.Mathlib.Omega.{arith}
 use borrow.Author.Tests.{eq-eqb, eqb-true}
 use lib.Dec.{eqb}
-use lib.ListN.{length, take, drop, replicate, length-replicate}
-use lib.Seq.{take_at}
+use lib.ListN.{length, take, replicate, length-replicate}
 use Rattle.std.specs.Prelude.{Result}
 use Rattle.subjobs.specs.declared.Reason.{Reason}
 use Rattle.lists.proofs.Cases.{test, both}

@@ -1,15 +1,11 @@
 -- The door's ways out with a graph: lengths that do not fit, too many sub-jobs or arcs, and what the graph's own entry
 -- answers.
-use Prim.Native.Nat.{ℕ, ◌*◌, ◌/◌, ◌%◌}
-use mathlib.Core.Bool.{true, false, ◌&&◌}
+use Prim.Native.Nat.{ℕ, ◌/◌}
+use mathlib.Core.Bool.{true, false}
 use mathlib.Core.List.{List}
-use mathlib.Core.Path.{◌≡◌, sym, ap, ◌∙◌}
-use native.Mathlib.Omega.{arith}
-use borrow.Author.Tests.{eqb-true}
-use lib.Dec.{eqb}
+use mathlib.Core.Path.{◌≡◌, sym, ◌∙◌}
 use lib.ListN.{length, take, replicate, length-replicate}
 use Rattle.lists.proofs.Mapped.{take-replicate}
-use Rattle.lists.proofs.Cases.{both}
 use Rattle.subjobs.specs.declared.Judgement.{Judgement}
 use Rattle.subjobs.specs.declared.Judgement.TheVariants.{Refused}
 use Rattle.subjobs.specs.declared.Reason.TheVariants.{TooMany}
@@ -19,7 +15,6 @@ use Rattle.graph.specs.Answers.{answer, results, Finds}
 use Rattle.graph.specs.Faults as faults
 use Rattle.graph.specs.Faults.{Few}
 use Rattle.graph.proofs.Judged.{refused_exactly}
-use Rattle.graph.proofs.Finding.{results-length}
 use Rattle.charoktan.specs.Records.{column, words, encoded, graph_of, fitting_graph, GraphWithin}
 use Rattle.charoktan.specs.Answers.{code, found, found_bytes, FindsBytes}
 use Rattle.charoktan.proofs.Coding.{length-column}
@@ -50,12 +45,6 @@ module _ (es bs : List ℕ) where
     graph_unfit e = (rw e, rw e)
 
     module _ (e : fitting_graph es bs (length out) ≡ true) where
-      pub graph_length : length out ≡ 4 * (length es / 4)
-      graph_length =
-          let w = both {a = eqb (length es % 4) 0 && eqb (length bs % 12) 0} {b = eqb (length out) (length es)} e in
-          let v = both {a = eqb (length es % 4) 0} {b = eqb (length bs % 12) 0} w.0 in
-          omega (arith, eqb-true (length out) (length es) w.1, eqb-true (length es % 4) 0 v.0)
-
       pub graph_answered :
           (a : Judgement)
           → answer (graph_of es bs) (length es / 4) ≡ a

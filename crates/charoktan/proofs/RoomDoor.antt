@@ -21,7 +21,7 @@ use Rattle.stretches.proofs.Stretched.{each-length, each_at, Written, written_no
 use Rattle.charoktan.specs.Records.{bytes, column, count, fitting, word}
 use Rattle.charoktan.specs.Answers.{assigned, assigned_bytes}
 use Rattle.charoktan.specs.Rooms.{RoomBytes, words_of, code_at, bytes_at, fitting_room, roomed, deadline_bytes, number_bytes, place_bytes, RoomsBytes, Stretch, Reads, AllRoomed}
-use Rattle.charoktan.proofs.Coding.{word-from_le_bytes, word-part, word-record, length-column, column_at, Put, put_none, put_length, put_next, put_whole}
+use Rattle.charoktan.proofs.Coding.{word-from_le_bytes, word-part, word-record, length-column, column_at, Put, put_none, put_next, put_whole}
 use Rattle.charoktan.proofs.Door.{fit_length, assigned_length}
 
 pub words_length : (ls : List ℕ) → length (words_of ls) ≡ length ls / 4
@@ -100,12 +100,6 @@ module _ (bs ls : List ℕ) where
       }
 
   module _ {old ks₀ ps₀ out ks ps : List ℕ} {a k : ℕ} (T : Turned old ks₀ ps₀ out ks ps a k) where
-    pub turned_numbers : length ks ≡ 4 * (length ls / 4)
-    turned_numbers = put_length T.numbered ∙ T.reads.numbers
-
-    pub turned_places : length ps ≡ 4 * (length ls / 4)
-    turned_places = put_length T.placed ∙ T.reads.places
-
     module _ (h : k < length ls / 4) (n : ℕ) (en : n ≡ get_or (words_of ls) k 0) where
       inside : k < length (words_of ls)
       inside = omega (arith, words_length ls)

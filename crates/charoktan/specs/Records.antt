@@ -12,7 +12,7 @@
 --   graph_of es as    == the graph whose executions and arcs the bytes hold
 --   fitting_graph es as m == their lengths fit: whole executions and arcs, and m bytes of results
 --   GraphWithin es as out n m == the lengths fit n sub-jobs and m arcs at most
-use Rattle.std.specs.Prelude.{ℕ, zero, suc, ◌+◌, ◌*◌, ◌/◌, ◌%◌, ◌≤◌, ◌<◌, Bool, true, ◌&&◌, List, [], ◌∷◌, ◌++◌, ◌≡◌, eqb, length, get_or}
+use Rattle.std.specs.Prelude.{ℕ, zero, suc, ◌+◌, ◌*◌, ◌/◌, ◌%◌, ◌≤◌, Bool, true, ◌&&◌, List, [], ◌∷◌, ◌++◌, ◌≡◌, eqb, length, get_or}
 use Rattle.subjobs.specs.Sets.{Subjobs, subjobs}
 use Rattle.graph.specs.Graphs.{Graph, graph}
 use Rattle.charoktan.specs.declared.bytes.Lists.{Lists}

@@ -221,7 +221,5 @@ pub fn charoktan_room(
         numbers.old places.old)
         result deadlines.new numbers.new places.new }
 {
-    told(rooms::assign(
-        records, lengths, deadlines, numbers, places,
-    ))
+    told(rooms::assign(records, lengths, deadlines, numbers, places))
 }

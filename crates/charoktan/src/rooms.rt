@@ -24,13 +24,7 @@ fn adds_up(lengths: &[u8], records: usize) -> bool
 }
 
 // Whether the bytes are those of whole lists of one length each, and the lengths add up.
-fn fitting(
-    records: &[u8],
-    lengths: &[u8],
-    deadlines: usize,
-    numbers: usize,
-    places: usize,
-) -> bool
+fn fitting(records: &[u8], lengths: &[u8], deadlines: usize, numbers: usize, places: usize) -> bool
     ensures { result ≡ fitting_room records.now lengths.now deadlines numbers places }
 {
     crate::fitting(records, deadlines)

@@ -6,10 +6,10 @@ use native.Mathlib.Omega.{arith}
 use lib.ListN.{length, get_or, set, drop, length-set, length-drop}
 use lib.Seq.{take_all, length-take-le}
 use Rattle.lists.proofs.Copied.{Copied, copied_none, copied_next, copied_whole}
-use Rattle.subjobs.specs.Sets.{Subjobs, subjobs}
+use Rattle.subjobs.specs.Sets.{Subjobs}
 use Rattle.olda.specs.declared.Answer.{Answer}
 use Rattle.olda.specs.declared.Answer.TheVariants.{Placed, Nothing, Refused}
-use Rattle.olda.specs.Answers.{answer, results}
+use Rattle.olda.specs.Answers.{answer}
 use Rattle.olda.proofs.Results.{refused_within, results-length}
 use Rattle.stretches.specs.Stretches.{stretch, replaced, start, each}
 use Rattle.stretches.specs.Answers.{set_at, answer_at, results_at, number, place}
@@ -24,24 +24,6 @@ place_within s n = by_answer (answer s n) refl
     by_answer (Placed r) e = omega arith
     by_answer Nothing e = omega arith
     by_answer (Refused r) e = refused_within s n r e
-
--- The stretches of the six lists are the set.
-pub set_here :
-    (s : Subjobs) (a n : ℕ) (js ks rs cs ds zs : List ℕ)
-    → js ≡ stretch a n s.jobs
-    → ks ≡ stretch a n s.subtasks
-    → rs ≡ stretch a n s.releases
-    → cs ≡ stretch a n s.executions
-    → ds ≡ stretch a n s.deadlines
-    → zs ≡ stretch a n s.criticals
-    → subjobs js ks rs cs ds zs ≡ set_at s a n
-set_here s a n js ks rs cs ds zs e f g h i j = rw (e, f, g, h, i, j)
-
--- What the assignment left of a stretch, put back into the list.
-pub put_here :
-    (s : Subjobs) (a n k : ℕ) (out : List ℕ) (here : Subjobs) {l : List ℕ} → k ≡ n → here ≡ set_at s a n → l ≡ results here (stretch a k out)
-    → replaced a k l out ≡ replaced a n (results_at s out a n) out
-put_here s a n k out here e f g = rw (g, f, e)
 
 module _ (s : Subjobs) (ns : List ℕ) where
   abbrev numbers : List ℕ

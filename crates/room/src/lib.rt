@@ -6,57 +6,25 @@
 ghost use Rattle.std.specs.Prelude.{◌+◌, ◌≤◌, ◌<◌, ◌≡◌, eqb, length};
 ghost use Rattle.lists.specs.Places.{total};
 ghost use Rattle.subjobs.specs.Sets.{subjobs};
-ghost use Rattle.stretches.specs.Stretches.{stretch, replaced};
+ghost use Rattle.stretches.specs.Stretches.{replaced};
 ghost use Rattle.stretches.specs.Answers.{room, answer_at, results_at, number, place, fitting, Assigns};
 ghost use Rattle.room.specs.Parts.{Within, Sets, AllAssigned};
 
 use olda::Answer;
 use subjobs::{Judgement, Reason};
 
-// What is told of a set.
-#[derive(Drop)]
-struct Verdict {
-    number: u32,
-    place: u32,
-}
-
 // The number of an answer and its place; both are 0 if the set is accepted.
-fn told(answer: Answer) -> Verdict
+fn told(answer: Answer) -> (u32, u32)
     requires { place answer < 128 }
-    ensures { (result.number ≡ number answer) × (result.place ≡ place answer) }
+    ensures { (result.0 ≡ number answer) × (result.1 ≡ place answer) }
 {
     match answer {
         Answer::Refused(reason) => {
             let told = subjobs::tell(reason);
-            Verdict {
-                number: told.number,
-                place: told.place as u32,
-            }
+            (told.number, told.place as u32)
         }
-        Answer::Nothing => Verdict {
-            number: 0,
-            place: 0,
-        },
-        Answer::Placed(_) => Verdict {
-            number: 0,
-            place: 0,
-        },
+        Answer::Nothing | Answer::Placed(_) => (0, 0),
     }
-}
-
-// A length as a number of places.
-fn index(length: u32) -> usize
-    ensures { result ≡ length }
-{
-    length as usize
-}
-
-// The stretch of a list that starts at a place.
-fn stretch(list: &[u32], start: usize, count: usize) -> &[u32]
-    requires { start + count ≤ length list.now }
-    ensures { result.now ≡ stretch start count list.now }
-{
-    &list[start..start + count]
 }
 
 // One set: its stretch of each list is lent to the assignment, the middle of the result list too.
@@ -80,14 +48,15 @@ fn assign_at(
         executions.now deadlines.now criticals.now) results.old start count)
         results.old) }
 {
+    let end = start + count;
     olda::assign(
-        stretch(jobs, start, count),
-        stretch(subtasks, start, count),
-        stretch(releases, start, count),
-        stretch(executions, start, count),
-        stretch(deadlines, start, count),
-        stretch(criticals, start, count),
-        &mut results[start..start + count],
+        &jobs[start..end],
+        &subtasks[start..end],
+        &releases[start..end],
+        &executions[start..end],
+        &deadlines[start..end],
+        &criticals[start..end],
+        &mut results[start..end],
     )
 }
 
@@ -111,16 +80,14 @@ fn assign_each(
         lengths.now results.old results.new numbers.new places.new }
 {
     let mut start = 0;
-    let mut k = 0;
-    while k < lengths.len() {
-        let count = index(lengths[k]);
-        let verdict = told(assign_at(
+    for (k, length) in lengths.iter().enumerate() {
+        let count = *length as usize;
+        let (number, place) = told(assign_at(
             jobs, subtasks, releases, executions, deadlines, criticals, start, count, results,
         ));
-        numbers[k] = verdict.number;
-        places[k] = verdict.place;
+        numbers[k] = number;
+        places[k] = place;
         start += count;
-        k += 1;
     }
 }
 
@@ -129,14 +96,11 @@ fn adds_up(lengths: &[u32], places: usize) -> bool
     ensures { result ≡ eqb (total lengths.now) places }
 {
     let mut left = places;
-    let mut k = 0;
-    while k < lengths.len() {
-        let count = index(lengths[k]);
-        if left < count {
+    for length in lengths {
+        let Some(rest) = left.checked_sub(*length as usize) else {
             return false;
-        }
-        left -= count;
-        k += 1;
+        };
+        left = rest;
     }
     left == 0
 }
@@ -205,7 +169,7 @@ pub fn assign(
     ) {
         return Judgement::Refused(Reason::Lengths);
     }
-    if !((lengths.len() <= 32) & (jobs.len() <= 4_096)) {
+    if 32 < lengths.len() || 4_096 < jobs.len() {
         return Judgement::Refused(Reason::TooLarge);
     }
     assign_each(

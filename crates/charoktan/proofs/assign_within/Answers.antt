@@ -1,5 +1,5 @@
 -- `assign_within` meets its contract: the set assigned is the one that the bytes hold.
-use Rattle.charoktan.proofs.Door.{fit_length, assigned_within}
+use Rattle.charoktan.proofs.Door.{assigned_within}
 use Rattle.charoktan.proofs.assign_within.Goals as goal
 
 pub returns-clause-assigns : goal.returns-clause-assigns

@@ -4,22 +4,13 @@ use native.Mathlib.Omega.{arith}
 use Rattle.stretches.proofs.Judged.{taken_next, taken_short, taken_all}
 use Rattle.room.proofs.adds_up.Goals as goal
 
-pub loop-k-init : goal.loop-k-init
-loop-k-init c =
-    record { most = omega arith; sum = refl }
+pub returns-in_default : goal.returns-in_default
+returns-in_default c =
+    taken_short c.loop-length.invariant c.loop-length-test.true refl (omega (arith, c.in_default.ensures))
 
-pub returns-then-left-count : goal.returns-then-left-count
-returns-then-left-count c =
-    taken_short c.loop-k.invariant c.loop-k-test.true c.index-count.ensures c.if-left-count.true
-
-pub loop-k-smaller : goal.loop-k-smaller
-loop-k-smaller c =
-    omega arith
-
-pub loop-k-preserved : goal.loop-k-preserved
-loop-k-preserved c =
-    taken_next c.loop-k.invariant c.loop-k-test.true c.index-count.ensures c.if-left-count.false
+pub loop-length-preserved : goal.loop-length-preserved
+loop-length-preserved c =
+    let e = c.in-Some.ensures in rw e.1 (taken_next c.loop-length.invariant c.loop-length-test.true refl e.0)
 
 pub returns : goal.returns
-returns c =
-    taken_all c.loop-k.invariant c.loop-k-test.false
+returns c = taken_all c.loop-length.invariant c.loop-length-test.false

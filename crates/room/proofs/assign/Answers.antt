@@ -1,38 +1,27 @@
 -- `assign` meets its contract: the two tests, and every set assigned.
 use mathlib.Core.Path.{sym, ◌∙◌}
-use Rattle.subjobs.specs.Sets.{subjobs}
-use Rattle.stretches.specs.Answers.{room}
+use borrow.Author.Tests.{le-leb, lt-leb}
 use Rattle.room.proofs.Answered.{unfit, too_large, all_sets, all_assigned}
 use Rattle.room.proofs.assign.Goals as goal
+use Rattle.room.proofs.assign.Goals.{then-lengths-gt32-via-then-lengths-gt32, then-lengths-gt32-via-else-lengths-gt32+then-jobs-gt4096}
 
 pub returns-then-not-fitting : goal.returns-then-not-fitting
-returns-then-not-fitting c =
-    let a = c.args in
-    let R = room (subjobs a.jobs.now a.subtasks.now a.releases.now a.executions.now a.deadlines.now a.criticals.now)
-    a.lengths.now a.results.now a.numbers.now a.places.now
-    in
-    unfit R (sym c.fitting.ensures ∙ c.if-not-fitting.true)
+returns-then-not-fitting c = unfit _ (sym c.fitting.ensures ∙ c.if-not-fitting.true)
 
-pub returns-then-not-lengths-jobs : goal.returns-then-not-lengths-jobs
-returns-then-not-lengths-jobs c =
-    let a = c.args in
-    let R = room (subjobs a.jobs.now a.subtasks.now a.releases.now a.executions.now a.deadlines.now a.criticals.now)
-    a.lengths.now a.results.now a.numbers.now a.places.now
-    in
-    too_large R (sym c.fitting.ensures ∙ c.if-not-fitting.false) c.if-not-lengths-jobs.true
+pub returns-then-lengths-gt32 : goal.returns-then-lengths-gt32
+returns-then-lengths-gt32 c =
+    too_large _ (sym c.fitting.ensures ∙ c.if-not-fitting.false)
+    (elim c.then-lengths-gt32.branch [
+      | then-lengths-gt32-via-then-lengths-gt32 w ↦ rw (lt-leb _ _ w.if-lengths-gt32.true)
+      | then-lengths-gt32-via-else-lengths-gt32+then-jobs-gt4096 w ↦ rw (le-leb _ _ w.if-lengths-gt32.false, lt-leb _ _ w.if-jobs-gt4096.true)
+    ])
 
 pub assign_each-requires : goal.assign_each-requires
 assign_each-requires c =
-    let a = c.args in
-    let R = room (subjobs a.jobs.now a.subtasks.now a.releases.now a.executions.now a.deadlines.now a.criticals.now)
-    a.lengths.now a.results.now a.numbers.now a.places.now
-    in
-    all_sets R (sym c.fitting.ensures ∙ c.if-not-fitting.false) c.if-not-lengths-jobs.false
+    all_sets _ (sym c.fitting.ensures ∙ c.if-not-fitting.false) (rw (le-leb _ _ c.if-lengths-gt32.false, le-leb _ _ c.if-jobs-gt4096.false))
 
 pub returns : goal.returns
 returns c =
-    let a = c.args in
-    let R = room (subjobs a.jobs.now a.subtasks.now a.releases.now a.executions.now a.deadlines.now a.criticals.now)
-    a.lengths.now a.results.now a.numbers.now a.places.now
-    in
-    all_assigned R (sym c.fitting.ensures ∙ c.if-not-fitting.false) c.if-not-lengths-jobs.false c.assign_each.ensures
+    all_assigned _ (sym c.fitting.ensures ∙ c.if-not-fitting.false)
+    (rw (le-leb _ _ c.if-lengths-gt32.false, le-leb _ _ c.if-jobs-gt4096.false))
+    c.assign_each.ensures

@@ -1,6 +1,4 @@
 -- `assign_each` meets its contract: each turn assigns one set, whatever became of those before it.
-use Prim.Native.Nat.{◌-◌}
-use lib.ListN.{length}
 use Rattle.subjobs.specs.Sets.{subjobs}
 use Rattle.room.proofs.Turns.{Turned}
 use Rattle.room.proofs.assign_each.Given as goal
@@ -8,7 +6,3 @@ use Rattle.room.proofs.assign_each.Given as goal
 abbrev pub invariant-loop-k : goal.invariant-loop-k
 invariant-loop-k l =
     Turned (subjobs l.jobs l.subtasks l.releases l.executions l.deadlines l.criticals) l.lengths l.initial.results l.results l.numbers l.places l.start l.k
-
-abbrev pub decreases-loop-k : goal.decreases-loop-k
-decreases-loop-k l =
-    length l.lengths - l.k
