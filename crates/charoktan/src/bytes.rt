@@ -51,6 +51,7 @@ pub(crate) struct Fields<const N: usize> {
 }
 
 impl<const N: usize> Fields<N> {
+    // All zeros: nothing is read yet.
     pub(crate) fn new() -> Fields<N> {
         Fields {
             jobs: [0; N],
