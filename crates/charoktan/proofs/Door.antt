@@ -45,7 +45,7 @@ unfolding records
 records_lengths bs others e =
     let n = count bs in
     let l : (k : ℕ) → length (column bs 24 k n) ≡ length (column bs 24 0 n) = λ k. length-column bs 24 k n ∙ sym (length-column bs 24 0 n) in
-    record { subtasks = l 4; releases = l 8; executions = l 12; deadlines = l 16; criticals = l 20; further = e }
+    record { subtasks = l _; releases = l _; executions = l _; deadlines = l _; criticals = l _; further = e }
 
 -- More than 128 records are too many sub-jobs.
 judged_many : (bs : List ℕ) (others : Bool) → others ≡ true → 128 < count bs → judgement (records bs) others ≡ judged.Refused TooMany
