@@ -22,7 +22,7 @@ fn meets(fit: &FitSet<'_>, place: usize, d: u32) -> bool
 {
     let set = &fit.set;
     at_most(set.releases[place], set.executions[place], d)
-        & at_most(d, set.criticals[place], set.deadlines[place])
+        && at_most(d, set.criticals[place], set.deadlines[place])
 }
 
 // The smallest place that fails (6).

@@ -12,7 +12,7 @@ impl Work<'_> {
         requires { place < size_of self.now }
         ensures { result ≡ active (load_of self.now) t served.now place }
     {
-        (self.set.releases[place] <= t) & (served[place] < self.owed(place))
+        self.set.releases[place] <= t && served[place] < self.owed(place)
     }
 
     // Whether the place i is served before the place j: smaller deadline, then smaller job, then smaller subtask.

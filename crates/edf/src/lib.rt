@@ -71,6 +71,7 @@ pub fn simulate(
 }
 
 // The same with the record of totals lent: it holds what comes back, whether the run was accepted or refused.
+// Kept so: a rule of the project has the totals lent to a thin function above a simulator by value.
 pub fn run(
     set: &Set<'_>,
     local: &[u32],
