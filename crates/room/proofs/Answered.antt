@@ -1,4 +1,5 @@
 -- A room's ways out: refused, with every list as found, or read and assigned set by set.
+use Rattle.std.specs.Prelude.{Ok, Err}
 use Prim.Native.Nat.{ℕ}
 use mathlib.Core.Bool.{true, false}
 use mathlib.Core.List.{List}
@@ -6,7 +7,6 @@ use mathlib.Core.Path.{◌≡◌, sym}
 use native.Mathlib.Omega.{arith}
 use borrow.Author.Tests.{eqb-true}
 use lib.ListN.{length}
-use Rattle.subjobs.specs.declared.Judgement.TheVariants.{Passed, Refused}
 use Rattle.subjobs.specs.declared.Reason.{Reason}
 use Rattle.subjobs.specs.declared.Reason.TheVariants.{Lengths, TooLarge}
 use Rattle.subjobs.specs.Sets.{size}
@@ -15,16 +15,16 @@ use Rattle.room.specs.Parts.{Sets, AllAssigned}
 use Rattle.stretches.proofs.Judged.{fitting, whole, few_so}
 
 module _ (R : Room) where
-  refused : (r : Reason) → judgement R ≡ Refused r → Assigns R (Refused r) R.deadlines R.numbers R.places
+  refused : (r : Reason) → judgement R ≡ Err r → Assigns R (Err r) R.deadlines R.numbers R.places
   unfolding deadlines_after numbers_after places_after
   refused r e = record { answer = sym e; deadlines = rw e; numbers = rw e; places = rw e }
 
-  pub unfit : fitting R ≡ false → Assigns R (Refused Lengths) R.deadlines R.numbers R.places
+  pub unfit : fitting R ≡ false → Assigns R (Err Lengths) R.deadlines R.numbers R.places
   unfolding judgement
   unfit e = refused Lengths (rw e)
 
   module _ (e : fitting R ≡ true) where
-    pub too_large : few (length R.lengths) (size R.sets) ≡ false → Assigns R (Refused TooLarge) R.deadlines R.numbers R.places
+    pub too_large : few (length R.lengths) (size R.sets) ≡ false → Assigns R (Err TooLarge) R.deadlines R.numbers R.places
     unfolding judgement
     too_large f = refused TooLarge (rw (e, f))
 
@@ -52,7 +52,7 @@ module _ (R : Room) where
           }
 
       pub all_assigned :
-          {out ks ps : List ℕ} → AllAssigned R.sets R.lengths R.deadlines out ks ps → Assigns R Passed out ks ps
+          {out ks ps : List ℕ} → AllAssigned R.sets R.lengths R.deadlines out ks ps → Assigns R (Ok tt) out ks ps
       unfolding judgement deadlines_after numbers_after places_after
       all_assigned a =
           record { answer = rw (e, f); deadlines = rw (e, f) a.deadlines; numbers = rw (e, f) a.numbers; places = rw (e, f) a.places }

@@ -1,4 +1,5 @@
 -- Set after set: what the loop over the sets holds.
+use Rattle.std.specs.Prelude.{Ok, Err}
 use Prim.Native.Nat.{ℕ, ◌+◌, ◌≤◌, ◌<◌}
 use mathlib.Core.List.{List}
 use mathlib.Core.Path.{◌≡◌, refl, sym, ◌∙◌}
@@ -7,8 +8,7 @@ use lib.ListN.{length, get_or, set, drop, length-set, length-drop}
 use lib.Seq.{take_all, length-take-le}
 use Rattle.lists.proofs.Copied.{Copied, copied_none, copied_next, copied_whole}
 use Rattle.subjobs.specs.Sets.{Subjobs}
-use Rattle.olda.specs.declared.Answer.{Answer}
-use Rattle.olda.specs.declared.Answer.TheVariants.{Placed, Nothing, Refused}
+use Rattle.olda.specs.Answers.{Answer}
 use Rattle.olda.specs.Answers.{answer}
 use Rattle.olda.proofs.Results.{refused_within, results-length}
 use Rattle.stretches.specs.Stretches.{stretch, replaced, start, each}
@@ -21,9 +21,8 @@ pub place_within : (s : Subjobs) (n : ℕ) → place (answer s n) < 128
 place_within s n = by_answer (answer s n) refl
   where
     by_answer : (a : Answer) → answer s n ≡ a → place a < 128
-    by_answer (Placed r) e = omega arith
-    by_answer Nothing e = omega arith
-    by_answer (Refused r) e = refused_within s n r e
+    by_answer (Ok r) e = omega arith
+    by_answer (Err r) e = refused_within s n r e
 
 module _ (s : Subjobs) (ns : List ℕ) where
   abbrev numbers : List ℕ

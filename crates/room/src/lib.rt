@@ -5,86 +5,67 @@
 
 ghost use Rattle.std.specs.Prelude.{◌+◌, ◌≤◌, ◌<◌, ◌≡◌, eqb, length};
 ghost use Rattle.lists.specs.Places.{total};
-ghost use Rattle.subjobs.specs.Sets.{subjobs};
+ghost use Rattle.subjobs.specs.Sets.{subjobs_of};
 ghost use Rattle.stretches.specs.Stretches.{replaced};
 ghost use Rattle.stretches.specs.Answers.{room, answer_at, results_at, number, place, fitting, Assigns};
 ghost use Rattle.room.specs.Parts.{Within, Sets, AllAssigned};
 
-use olda::Answer;
-use subjobs::{Judgement, Reason};
+use olda::Report;
+use subjobs::{Reason, Set, Told};
 
 // The number of an answer and its place; both are 0 if the set is accepted.
-fn told(answer: Answer) -> (u32, u32)
+fn told(answer: Result<Option<Report>, Reason>) -> (u32, u32)
     requires { place answer < 128 }
     ensures { (result.0 ≡ number answer) × (result.1 ≡ place answer) }
 {
     match answer {
-        Answer::Refused(reason) => {
-            let told = subjobs::tell(reason);
+        Ok(_) => (0, 0),
+        Err(reason) => {
+            let told = Told::from(reason);
             (told.number, told.place as u32)
         }
-        Answer::Nothing | Answer::Placed(_) => (0, 0),
     }
 }
 
 // One set: its stretch of each list is lent to the assignment, the middle of the result list too.
 fn assign_at(
-    jobs: &[u32],
-    subtasks: &[u32],
-    releases: &[u32],
-    executions: &[u32],
-    deadlines: &[u32],
-    criticals: &[u32],
+    sets: &Set<'_>,
     start: usize,
     count: usize,
     results: &mut [u32],
-) -> Answer
-    requires { Within (subjobs jobs.now subtasks.now releases.now executions.now deadlines.now criticals.now)
-        start count results.old }
-    ensures { (result ≡ answer_at (subjobs jobs.now subtasks.now releases.now
-        executions.now deadlines.now criticals.now) start count)
+) -> Result<Option<Report>, Reason>
+    requires { Within (subjobs_of sets.now) start count results.old }
+    ensures { (result ≡ answer_at (subjobs_of sets.now) start count)
         × (results.new ≡ replaced start count
-        (results_at (subjobs jobs.now subtasks.now releases.now
-        executions.now deadlines.now criticals.now) results.old start count)
-        results.old) }
+        (results_at (subjobs_of sets.now) results.old start count) results.old) }
 {
     let end = start + count;
-    olda::assign(
-        &jobs[start..end],
-        &subtasks[start..end],
-        &releases[start..end],
-        &executions[start..end],
-        &deadlines[start..end],
-        &criticals[start..end],
-        &mut results[start..end],
-    )
+    let set = Set {
+        jobs: &sets.jobs[start..end],
+        subtasks: &sets.subtasks[start..end],
+        releases: &sets.releases[start..end],
+        executions: &sets.executions[start..end],
+        deadlines: &sets.deadlines[start..end],
+        criticals: &sets.criticals[start..end],
+    };
+    olda::assign(&set, &mut results[start..end])
 }
 
 // Every set in turn, whatever became of those before it.
 fn assign_each(
-    jobs: &[u32],
-    subtasks: &[u32],
-    releases: &[u32],
-    executions: &[u32],
-    deadlines: &[u32],
-    criticals: &[u32],
+    sets: &Set<'_>,
     lengths: &[u32],
     results: &mut [u32],
     numbers: &mut [u32],
     places: &mut [u32],
 )
-    requires { Sets (subjobs jobs.now subtasks.now releases.now executions.now deadlines.now criticals.now)
-        lengths.now results.old numbers.old places.old }
-    ensures { AllAssigned (subjobs jobs.now subtasks.now releases.now
-        executions.now deadlines.now criticals.now)
-        lengths.now results.old results.new numbers.new places.new }
+    requires { Sets (subjobs_of sets.now) lengths.now results.old numbers.old places.old }
+    ensures { AllAssigned (subjobs_of sets.now) lengths.now results.old results.new numbers.new places.new }
 {
     let mut start = 0;
     for (k, length) in lengths.iter().enumerate() {
         let count = *length as usize;
-        let (number, place) = told(assign_at(
-            jobs, subtasks, releases, executions, deadlines, criticals, start, count, results,
-        ));
+        let (number, place) = told(assign_at(sets, start, count, results));
         numbers[k] = number;
         places[k] = place;
         start += count;
@@ -106,75 +87,34 @@ fn adds_up(lengths: &[u32], places: usize) -> bool
 }
 
 // Whether lists of one kind are of one length and the lengths add up, by the lengths of those that are written.
-fn fitting(
-    jobs: &[u32],
-    subtasks: &[u32],
-    releases: &[u32],
-    executions: &[u32],
-    deadlines: &[u32],
-    criticals: &[u32],
-    lengths: &[u32],
-    results: usize,
-    numbers: usize,
-    places: usize,
-) -> bool
-    ensures { result ≡ fitting (subjobs jobs.now subtasks.now releases.now
-        executions.now deadlines.now criticals.now)
-        lengths.now results numbers places }
+fn fitting(sets: &Set<'_>, lengths: &[u32], results: usize, numbers: usize, places: usize) -> bool
+    ensures { result ≡ fitting (subjobs_of sets.now) lengths.now results numbers places }
 {
-    subjobs::judging::one_length(
-        jobs,
-        subtasks,
-        releases,
-        executions,
-        deadlines,
-        criticals,
-        results == jobs.len(),
-    ) & (numbers == lengths.len())
+    sets.one_length(results == sets.jobs.len())
+        & (numbers == lengths.len())
         & (places == lengths.len())
-        & adds_up(lengths, jobs.len())
+        & adds_up(lengths, sets.jobs.len())
 }
 
 // Gives each sub-job of every set its local deadline, as one call of `olda::assign` per set would. A set that is refused
 // keeps its stretch of the results, and the next one is assigned. After a refusal of the call all three lists hold what
 // they held before.
 pub fn assign(
-    jobs: &[u32],
-    subtasks: &[u32],
-    releases: &[u32],
-    executions: &[u32],
-    deadlines: &[u32],
-    criticals: &[u32],
+    sets: &Set<'_>,
     lengths: &[u32],
     results: &mut [u32],
     numbers: &mut [u32],
     places: &mut [u32],
-) -> Judgement
-    ensures { Assigns (room (subjobs jobs.now subtasks.now releases.now
-        executions.now deadlines.now criticals.now)
-        lengths.now results.old numbers.old places.old)
+) -> Result<(), Reason>
+    ensures { Assigns (room (subjobs_of sets.now) lengths.now results.old numbers.old places.old)
         result results.new numbers.new places.new }
 {
-    if !fitting(
-        jobs,
-        subtasks,
-        releases,
-        executions,
-        deadlines,
-        criticals,
-        lengths,
-        results.len(),
-        numbers.len(),
-        places.len(),
-    ) {
-        return Judgement::Refused(Reason::Lengths);
+    if !fitting(sets, lengths, results.len(), numbers.len(), places.len()) {
+        return Err(Reason::Lengths);
     }
-    if 32 < lengths.len() || 4_096 < jobs.len() {
-        return Judgement::Refused(Reason::TooLarge);
+    if 32 < lengths.len() || 4_096 < sets.jobs.len() {
+        return Err(Reason::TooLarge);
     }
-    assign_each(
-        jobs, subtasks, releases, executions, deadlines, criticals, lengths, results, numbers,
-        places,
-    );
-    Judgement::Passed
+    assign_each(sets, lengths, results, numbers, places);
+    Ok(())
 }
