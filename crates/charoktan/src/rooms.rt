@@ -1,6 +1,5 @@
 // A room at the door: its sets one after another, each by `charoktan_assign` on its own stretch of the bytes.
-// Kept so: (d) `room` goes from set to set in the same way, on lists; one walk for both would be a public function of a
-// crate below them, over an iterator of lengths and closures that assign and write, and longer than the two loops.
+// Kept so: (d) `room` walks so too, on lists; one walk for both takes a crate below them and closures, and is longer.
 ghost use Rattle.std.specs.Prelude.{◌+◌, ◌*◌, ◌/◌, ◌<◌, ◌≡◌, eqb, length, get_or};
 ghost use Rattle.lists.specs.Places.{total};
 ghost use Rattle.stretches.specs.Stretches.{replaced};
