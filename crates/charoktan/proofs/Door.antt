@@ -7,28 +7,24 @@ use native.Mathlib.Omega.{arith}
 use borrow.Author.Tests.{eq-eqb, eqb-true}
 use lib.Dec.{eqb}
 use lib.ListN.{length, take, replicate, length-replicate}
-use Rattle.std.specs.Prelude.{Result}
-use Rattle.subjobs.specs.declared.Reason.{Reason}
+use Rattle.std.specs.Prelude.{Ok, Err, Some, None}
 use Rattle.lists.proofs.Cases.{test, both}
 use Rattle.lists.proofs.Mapped.{take-replicate}
-use Rattle.subjobs.specs.declared.Judgement.TheVariants as judged
 use Rattle.subjobs.specs.declared.Reason.TheVariants.{TooMany}
 use Rattle.subjobs.specs.Sets.{Subjobs, size}
-use Rattle.subjobs.specs.Judging.{judgement}
+use Rattle.subjobs.specs.Judging.{Judgement, judgement}
 use Rattle.subjobs.specs.Faults as faults
 use Rattle.subjobs.specs.Faults.{OneLength}
 use Rattle.subjobs.proofs.Fit.{judged_exactly}
 use Rattle.subjobs.proofs.Reported.{number_range}
-use Rattle.olda.specs.declared.Answer.{Answer}
-use Rattle.olda.specs.declared.Answer.TheVariants.{Placed, Nothing, Refused}
+use Rattle.olda.specs.Answers.{Answer}
 use Rattle.olda.specs.Answers.{answer, results}
 use Rattle.olda.proofs.Results.{results-length, refused_within}
-use Rattle.checker.specs.declared.Answer as checker
-use Rattle.checker.specs.declared.Answer.TheVariants as check
 use Rattle.checker.specs.Answers as checkers
 use Rattle.checker.specs.Answers.{Checks}
+use Rattle.checker.proofs.Reported as reported
 use Rattle.charoktan.specs.Records.{column, words, count, records, encoded, fitting, Within}
-use Rattle.charoktan.specs.Answers.{told, checking, checked, placing, assigned, if_placed, assigned_bytes, AssignsSet, AssignsBytes, ChecksBytes}
+use Rattle.charoktan.specs.Answers.{told, Small, checked, assigned, if_placed, assigned_bytes, AssignsSet, AssignsBytes, ChecksBytes}
 use Rattle.charoktan.proofs.Coding.{length-column, length-encoded}
 
 -- The lengths that fit: 4 bytes of results for each record.
@@ -48,7 +44,7 @@ records_lengths bs others e =
     record { subtasks = l _; releases = l _; executions = l _; deadlines = l _; criticals = l _; further = e }
 
 -- More than 128 records are too many sub-jobs.
-judged_many : (bs : List ℕ) (others : Bool) → others ≡ true → 128 < count bs → judgement (records bs) others ≡ judged.Refused TooMany
+judged_many : (bs : List ℕ) (others : Bool) → others ≡ true → 128 < count bs → judgement (records bs) others ≡ Err TooMany
 judged_many bs others e h =
     (judged_exactly (records bs) others TooMany).1 (faults.many (records_lengths bs others e) (rw (size-records bs) h))
 
@@ -61,7 +57,7 @@ module _ (bs out : List ℕ) where
     pub answered :
         (a : Answer)
         → answer (records bs) (count bs) ≡ a
-        → (assigned bs (length out) ≡ placing a)
+        → (assigned bs (length out) ≡ told a)
         × (assigned_bytes bs out ≡ if_placed a (encoded (results (records bs) (replicate (count bs) 0))) out)
     unfolding assigned assigned_bytes
     answered a q = (rw (e, q), rw (e, q))
@@ -69,7 +65,7 @@ module _ (bs out : List ℕ) where
     pub many : 128 < count bs → (assigned bs (length out) ≡ 2) × (assigned_bytes bs out ≡ out)
     unfolding answer
     many h =
-        answered (Refused TooMany) (rw (judged_many bs (eqb (count bs) (size (records bs))) (eq-eqb _ _ (sym (size-records bs))) h))
+        answered (Err TooMany) (rw (judged_many bs (eqb (count bs) (size (records bs))) (eq-eqb _ _ (sym (size-records bs))) h))
 
 -- Whatever comes of a call, the results keep their length.
 pub assigned_length : (bs out : List ℕ) → length (assigned_bytes bs out) ≡ length out
@@ -77,11 +73,11 @@ assigned_length bs out =
     test (fitting bs (length out)) (λ e. by_answer e (answer (records bs) (count bs)) refl) (λ e. ap length (unfit bs out e).1)
   where
     by_answer : fitting bs (length out) ≡ true → (a : Answer) → answer (records bs) (count bs) ≡ a → length (assigned_bytes bs out) ≡ length out
-    by_answer e Nothing q = ap length (answered bs out e Nothing q).1
-    by_answer e (Refused r) q = ap length (answered bs out e (Refused r) q).1
-    by_answer e (Placed r) q =
+    by_answer e (Ok None) q = ap length (answered bs out e (Ok None) q).1
+    by_answer e (Err r) q = ap length (answered bs out e (Err r) q).1
+    by_answer e (Ok (Some r)) q =
         let ds = results (records bs) (replicate (count bs) 0) in
-        ap length (answered bs out e (Placed r) q).1
+        ap length (answered bs out e (Ok (Some r)) q).1
         ∙ omega (arith, length-encoded ds, results-length (records bs) (replicate (count bs) 0), length-replicate {A = ℕ} (count bs) 0, fit_length bs (length out) e)
 
 -- The place in the number returned is one of 128.
@@ -89,14 +85,13 @@ pub place_small : (bs : List ℕ) (m : ℕ) → assigned bs m / 65_536 < 128
 unfolding assigned
 place_small bs m = test (fitting bs m) (λ e. rw e (by_answer (answer (records bs) (count bs)) refl)) (λ e. rw e (omega arith))
   where
-    by_answer : (a : Answer) → answer (records bs) (count bs) ≡ a → placing a / 65_536 < 128
-    by_answer (Placed r) q = omega arith
-    by_answer Nothing q = omega arith
-    by_answer (Refused r) q = omega (arith, refused_within (records bs) (count bs) r q, (number_range r).1)
+    by_answer : (a : Answer) → answer (records bs) (count bs) ≡ a → told a / 65_536 < 128
+    by_answer (Ok r) q = omega arith
+    by_answer (Err r) q = omega (arith, refused_within (records bs) (count bs) r q, (number_range r).1)
 
 -- What comes of the assignment of the set that the bytes hold, in a room of zeros, is what the door is held to.
 pub assigned_within :
-    (bs out : List ℕ) (n : ℕ) (s : Subjobs) (r : Result Unit Reason) (out' : List ℕ)
+    (bs out : List ℕ) (n : ℕ) (s : Subjobs) (r : Judgement) (out' : List ℕ)
     → Within bs out n
     → s ≡ records bs
     → AssignsSet s (take (count bs) (replicate n 0)) out r out'
@@ -113,27 +108,32 @@ module _ (bs ds : List ℕ) where
 
   module _ (e : fitting bs (length ds) ≡ true) where
     pub answered_check :
-        (a : checker.Answer) → checkers.answer (records bs) (words ds (count bs)) ≡ a → checked bs ds ≡ checking a
+        (a : Judgement) → checkers.answer (records bs) (words ds (count bs)) ≡ a → checked bs ds ≡ told a
     unfolding checked
     answered_check a q = rw (e, q)
 
     pub many_check : 128 < count bs → checked bs ds ≡ 2
     unfolding checkers.answer
     many_check h =
-        answered_check (check.Refused TooMany)
+        answered_check (Err TooMany)
         (rw (judged_many bs (eqb (length (words ds (count bs))) (size (records bs))) (eq-eqb _ _ (length-column ds 4 0 (count bs) ∙ sym (size-records bs))) h))
 
 -- What the checker answers on what the bytes hold is what the door is held to.
-pub checked_within :
-    (bs ds : List ℕ) (n : ℕ) (s : Subjobs) (l : List ℕ) (r : checker.Answer)
-    → Within bs ds n
-    → s ≡ records bs
-    → l ≡ column ds 4 0 (length ds / 4)
-    → Checks s l r
-    → (a : checker.Answer)
-    → r ≡ a
-    → (checkers.answer (records bs) (words ds (count bs)) ≡ a) × ChecksBytes bs ds (checking a)
-checked_within bs ds n s l r W e z h a q =
-    let k : length ds / 4 ≡ count bs = omega (arith, fit_length bs (length ds) W.fits) in
-    let w : checkers.answer (records bs) (words ds (count bs)) ≡ a = sym (h ∙ rw (e, z, k)) ∙ q in
-    (w, sym (answered_check bs ds W.fits a w))
+module _
+    (bs ds : List ℕ) (n : ℕ) (s : Subjobs) (l : List ℕ) (r : Judgement) (W : Within bs ds n) (e : s ≡ records bs)
+    (z : l ≡ column ds 4 0 (length ds / 4)) (h : Checks s l r)
+  where
+    is_answer : checkers.answer (records bs) (words ds (count bs)) ≡ r
+    is_answer =
+        let k : length ds / 4 ≡ count bs = omega (arith, fit_length bs (length ds) W.fits) in
+        sym (h ∙ rw (e, z, k))
+
+    pub checked_within : ChecksBytes bs ds (told r)
+    checked_within = sym (answered_check bs ds W.fits r is_answer)
+
+    pub checked_small : Small r
+    checked_small = by_answer r is_answer
+      where
+        by_answer : (a : Judgement) → checkers.answer (records bs) (words ds (count bs)) ≡ a → Small a
+        by_answer (Ok u) q = tt
+        by_answer (Err w) q = omega (arith, reported.refused_within (records bs) (words ds (count bs)) w q)

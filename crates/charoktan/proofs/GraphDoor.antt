@@ -1,13 +1,13 @@
 -- The door's ways out with a graph: lengths that do not fit, too many sub-jobs or arcs, and what the graph's own entry
 -- answers.
+use Rattle.std.specs.Prelude.{Err}
 use Prim.Native.Nat.{ℕ, ◌/◌}
 use mathlib.Core.Bool.{true, false}
 use mathlib.Core.List.{List}
 use mathlib.Core.Path.{◌≡◌, sym, ◌∙◌}
 use lib.ListN.{length, take, replicate, length-replicate}
 use Rattle.lists.proofs.Mapped.{take-replicate}
-use Rattle.subjobs.specs.declared.Judgement.{Judgement}
-use Rattle.subjobs.specs.declared.Judgement.TheVariants.{Refused}
+use Rattle.subjobs.specs.Judging.{Judgement}
 use Rattle.subjobs.specs.declared.Reason.TheVariants.{TooMany}
 use Rattle.subjobs.specs.Judging.{if_passed}
 use Rattle.graph.specs.Graphs.{Graph, graph, size, arcs}
@@ -58,7 +58,7 @@ module _ (es bs : List ℕ) where
       graph_many n =
           let m = length bs / 12 in
           let l : (k : ℕ) → length (column bs 12 k m) ≡ length (column bs 12 0 m) = λ k. length-column bs 12 k m ∙ sym (length-column bs 12 0 m) in
-          graph_answered (Refused TooMany)
+          graph_answered (Err TooMany)
           ((refused_exactly (graph_of es bs) (length es / 4) TooMany).1
           (faults.many (record { results = sym (length-column es 4 0 (length es / 4)); afters = l 4; hops = l 8 }) n))
 

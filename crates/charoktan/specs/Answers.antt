@@ -7,16 +7,12 @@
 --   checked bs ds       == what charoktan_check returns
 --   found es arcs m     == what charoktan_critical returns, for m bytes of results
 --   found_bytes es arcs out == what the results hold afterwards, if they held out before
-use Rattle.std.specs.Prelude.{ℕ, ◌+◌, ◌*◌, ◌/◌, ◌<◌, cond, List, ◌≡◌, length, replicate, Result, Ok, Err}
-use Rattle.subjobs.specs.Judging.{if_passed}
+use Rattle.std.specs.Prelude.{Some, None, ℕ, ◌+◌, ◌*◌, ◌/◌, ◌<◌, cond, List, ◌≡◌, length, replicate, Result, Ok, Err}
+use Rattle.subjobs.specs.Judging.{Judgement, if_passed}
 use Rattle.subjobs.specs.declared.Reason.{Reason}
 use Rattle.subjobs.specs.Sets.{Subjobs}
 use Rattle.subjobs.specs.Reasons.{number_of, place_of}
-use Rattle.olda.specs.declared.Answer as olda
-use Rattle.olda.specs.declared.Answer.TheVariants.{Placed, Nothing, Refused}
-use Rattle.olda.specs.Answers.{answer, results}
-use Rattle.checker.specs.declared.Answer as checker
-use Rattle.checker.specs.declared.Answer.TheVariants as check
+use Rattle.olda.specs.Answers.{Answer, answer, results}
 use Rattle.checker.specs.Answers as checkers
 use Rattle.graph.specs.Answers as graphs
 use Rattle.charoktan.specs.Records.{count, records, encoded, fitting, words, graph_of, fitting_graph}
@@ -25,32 +21,23 @@ use Rattle.charoktan.specs.Records.{count, records, encoded, fitting, words, gra
 abbrev pub code : Reason → ℕ
 code r = number_of r + 65_536 * place_of r
 
-abbrev pub told : Result Unit Reason → ℕ
-told (Ok u) = 0
+abbrev pub told : {A : Type 0} → Result A Reason → ℕ
+told (Ok a) = 0
 told (Err r) = code r
 
 -- The place of a refusal is small.
-abbrev pub Small : Result Unit Reason → Type 0
+abbrev pub Small : Judgement → Type 0
 Small (Ok u) = Unit {0}
 Small (Err r) = place_of r < 1_024
 
-abbrev pub placing : olda.Answer → ℕ
-placing (Placed r) = 0
-placing Nothing = 0
-placing (Refused r) = code r
-
-abbrev pub checking : checker.Answer → ℕ
-checking check.Accepted = 0
-checking (check.Refused r) = code r
-
 unfoldable pub assigned : List ℕ → ℕ → ℕ
-assigned bs m = cond (fitting bs m) (placing (answer (records bs) (count bs))) 1
+assigned bs m = cond (fitting bs m) (told (answer (records bs) (count bs))) 1
 
 -- A refused call leaves every byte; an empty set has none.
-abbrev pub if_placed : olda.Answer → List ℕ → List ℕ → List ℕ
-if_placed (Placed r) new old = new
-if_placed Nothing new old = old
-if_placed (Refused r) new old = old
+abbrev pub if_placed : Answer → List ℕ → List ℕ → List ℕ
+if_placed (Ok (Some r)) new old = new
+if_placed (Ok None) new old = old
+if_placed (Err r) new old = old
 
 unfoldable pub assigned_bytes : List ℕ → List ℕ → List ℕ
 assigned_bytes bs out =
@@ -60,12 +47,12 @@ assigned_bytes bs out =
 
 unfoldable pub checked : List ℕ → List ℕ → ℕ
 checked bs ds =
-    cond (fitting bs (length ds)) (checking (checkers.answer (records bs) (words ds (count bs)))) 1
+    cond (fitting bs (length ds)) (told (checkers.answer (records bs) (words ds (count bs)))) 1
 
 -- What the assignment of a set comes to, if its results go from the list l into bytes.
-abbrev pub AssignsSet : Subjobs → (l out : List ℕ) → Result Unit Reason → List ℕ → Type 0
+abbrev pub AssignsSet : Subjobs → (l out : List ℕ) → Judgement → List ℕ → Type 0
 AssignsSet s l out r out' =
-    (told r ≡ placing (answer s (length l))) × (out' ≡ if_placed (answer s (length l)) (encoded (results s l)) out)
+    (told r ≡ told (answer s (length l))) × (out' ≡ if_placed (answer s (length l)) (encoded (results s l)) out)
 
 -- What `charoktan_assign` is held to: the number returned, and what the results hold afterwards.
 abbrev pub AssignsBytes : (bs out : List ℕ) → ℕ → List ℕ → Type 0

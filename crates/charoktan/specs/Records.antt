@@ -3,7 +3,6 @@
 --   word bs at       == the 32-bit little-endian number at byte at
 --   column bs w k n  == the numbers at byte k of each of n records of w bytes
 --   records bs       == the set that the bytes hold
---   set_of l         == the set whose six lists are lent
 --   bytes v          == the four bytes of a number, little-endian
 --   encoded vs       == the bytes of a list of numbers
 --   words bs n       == the n numbers that these bytes hold
@@ -15,7 +14,6 @@
 use Rattle.std.specs.Prelude.{ℕ, zero, suc, ◌+◌, ◌*◌, ◌/◌, ◌%◌, ◌≤◌, Bool, true, ◌&&◌, List, [], ◌∷◌, ◌++◌, ◌≡◌, eqb, length, get_or}
 use Rattle.subjobs.specs.Sets.{Subjobs, subjobs}
 use Rattle.graph.specs.Graphs.{Graph, graph}
-use Rattle.charoktan.specs.declared.bytes.Lists.{Lists}
 
 abbrev pub word : List ℕ → ℕ → ℕ
 word bs at =
@@ -34,10 +32,6 @@ unfoldable pub records : List ℕ → Subjobs
 records bs =
     let field : ℕ → List ℕ = λ k. column bs 24 k (count bs) in
     subjobs (field 0) (field 4) (field 8) (field 12) (field 16) (field 20)
-
--- the set whose lists are lent
-abbrev pub set_of : Lists → Subjobs
-set_of f = subjobs f.jobs.now f.subtasks.now f.releases.now f.executions.now f.deadlines.now f.criticals.now
 
 -- results are 4 bytes little-endian each
 abbrev pub bytes : ℕ → List ℕ

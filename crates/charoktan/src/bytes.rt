@@ -1,6 +1,9 @@
 // Numbers in the engine's bytes, 32 bits little-endian.
 ghost use Rattle.std.specs.Prelude.{◌+◌, ◌*◌, ◌/◌, ◌≤◌, ◌≡◌, ◌++◌, length, take, drop};
-ghost use Rattle.charoktan.specs.Records.{word, column, count, set_of, records, bytes, encoded};
+ghost use Rattle.subjobs.specs.Sets.{subjobs_of};
+ghost use Rattle.charoktan.specs.Records.{word, column, count, records, bytes, encoded};
+
+use subjobs::Set;
 
 // The number whose four bytes begin at a byte.
 fn word(bytes: &[u8], at: usize) -> u32
@@ -28,17 +31,6 @@ pub(crate) fn column<'a, const WIDTH: usize>(
     &room[..records.len()]
 }
 
-// The six lists of a set, lent.
-#[derive(Clone, Copy)]
-pub(crate) struct Lists<'a> {
-    pub(crate) jobs: &'a [u32],
-    pub(crate) subtasks: &'a [u32],
-    pub(crate) releases: &'a [u32],
-    pub(crate) executions: &'a [u32],
-    pub(crate) deadlines: &'a [u32],
-    pub(crate) criticals: &'a [u32],
-}
-
 // Room for the six fields of N records.
 #[derive(Drop)]
 pub(crate) struct Fields<const N: usize> {
@@ -64,9 +56,9 @@ impl<const N: usize> Fields<N> {
     }
 
     // The set that records of 24 bytes hold: read into the room, and lent from there.
-    pub(crate) fn read(&mut self, bytes: &[u8]) -> Lists<'_>
+    pub(crate) fn read(&mut self, bytes: &[u8]) -> Set<'_>
         requires { count bytes.now ≤ N }
-        ensures { set_of result ≡ records bytes.now }
+        ensures { subjobs_of result ≡ records bytes.now }
     {
         let (records, _) = bytes.as_chunks::<24>();
         for (i, record) in records.iter().enumerate() {
@@ -78,7 +70,7 @@ impl<const N: usize> Fields<N> {
             self.criticals[i] = word(record, 20);
         }
         let n = records.len();
-        Lists {
+        Set {
             jobs: &self.jobs[..n],
             subtasks: &self.subtasks[..n],
             releases: &self.releases[..n],

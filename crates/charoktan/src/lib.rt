@@ -4,14 +4,14 @@
 #![tactic(auto)]
 
 ghost use Rattle.std.specs.Prelude.{◌*◌, ◌≡◌, length};
-ghost use Rattle.charoktan.specs.Records.{set_of, fitting, fitting_graph, Within, GraphWithin};
+ghost use Rattle.subjobs.specs.Sets.{subjobs_of};
+ghost use Rattle.charoktan.specs.Records.{fitting, fitting_graph, Within, GraphWithin};
 ghost use Rattle.charoktan.specs.Answers.{told, Small, AssignsSet, AssignsBytes, ChecksBytes, FindsBytes};
 ghost use Rattle.charoktan.specs.Rooms.{room_bytes, RoomsBytes};
 
-use bytes::{Fields, Lists};
-use checker::Answer as Checked;
-use olda::Answer;
-use subjobs::{Judgement, Reason};
+use bytes::Fields;
+use graph::Graph;
+use subjobs::{Reason, Set, Told};
 
 mod bytes;
 mod rooms;
@@ -24,7 +24,7 @@ fn told(outcome: Result<(), Reason>) -> u32
     match outcome {
         Ok(()) => 0,
         Err(reason) => {
-            let told = subjobs::tell(reason);
+            let told = Told::from(reason);
             told.number + 65_536 * (told.place as u32)
         }
     }
@@ -39,27 +39,15 @@ fn fitting(records: &[u8], results: usize) -> bool
 
 // The assignment of a set, with a list lent for its results, into bytes. Both sizes of rooms call it, so that there is one
 // copy of the assignment, which is built into it.
-fn assign_set(set: Lists, local: &mut [u32], deadlines: &mut [u8]) -> Result<(), Reason>
+fn assign_set(set: &Set<'_>, local: &mut [u32], deadlines: &mut [u8]) -> Result<(), Reason>
     requires { length deadlines.old ≡ 4 * length local.old }
     ensures small { Small result }
-    ensures assigns { AssignsSet (set_of set.entry) local.old deadlines.old result deadlines.new }
+    ensures assigns { AssignsSet (subjobs_of set.now) local.old deadlines.old result deadlines.new }
 {
-    match olda::assign(
-        set.jobs,
-        set.subtasks,
-        set.releases,
-        set.executions,
-        set.deadlines,
-        set.criticals,
-        local,
-    ) {
-        Answer::Refused(reason) => Err(reason),
-        Answer::Nothing => Ok(()),
-        Answer::Placed(_) => {
-            bytes::put_all(local, deadlines);
-            Ok(())
-        }
+    if olda::assign(set, local)?.is_some() {
+        bytes::put_all(local, deadlines);
     }
+    Ok(())
 }
 
 // The assignment on whole records, with room for N of them.
@@ -71,7 +59,7 @@ fn assign_within<const N: usize>(records: &[u8], deadlines: &mut [u8]) -> Result
     let mut fields = Fields::<N>::new();
     let mut local = [0; N];
     assign_set(
-        fields.read(records),
+        &fields.read(records),
         &mut local[..records.len() / 24],
         deadlines,
     )
@@ -106,20 +94,11 @@ fn check_within<const N: usize>(records: &[u8], deadlines: &[u8]) -> Result<(), 
     ensures checks { ChecksBytes records.now deadlines.now (told result) }
 {
     let mut fields = Fields::<N>::new();
-    let set = fields.read(records);
     let mut proposed = [0; N];
-    match checker::check(
-        set.jobs,
-        set.subtasks,
-        set.releases,
-        set.executions,
-        set.deadlines,
-        set.criticals,
+    checker::check(
+        &fields.read(records),
         bytes::column::<4>(deadlines, 0, &mut proposed),
-    ) {
-        Checked::Refused(reason) => Err(reason),
-        Checked::Accepted => Ok(()),
-    }
+    )
 }
 
 // The checker, or why it refuses.
@@ -167,19 +146,15 @@ fn critical_within<const N: usize, const M: usize>(
     let mut hops = [0; M];
     let mut local = [0; N];
     let local = &mut local[..executions.len() / 4];
-    match graph::critical(
-        bytes::column::<4>(executions, 0, &mut times),
-        bytes::column::<12>(arcs, 0, &mut befores),
-        bytes::column::<12>(arcs, 4, &mut afters),
-        bytes::column::<12>(arcs, 8, &mut hops),
-        local,
-    ) {
-        Judgement::Refused(reason) => Err(reason),
-        Judgement::Passed => {
-            bytes::put_all(local, results);
-            Ok(())
-        }
-    }
+    let graph = Graph {
+        executions: bytes::column::<4>(executions, 0, &mut times),
+        befores: bytes::column::<12>(arcs, 0, &mut befores),
+        afters: bytes::column::<12>(arcs, 4, &mut afters),
+        hops: bytes::column::<12>(arcs, 8, &mut hops),
+    };
+    graph::critical(&graph, local)?;
+    bytes::put_all(local, results);
+    Ok(())
 }
 
 // Critical times from a graph, or why it is refused. Up to 16 sub-jobs and 32 arcs have rooms of their own.
