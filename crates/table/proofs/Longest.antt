@@ -1,4 +1,5 @@
 -- The longest answer: a header of 35 bytes and 128 lines of at most 56. So there is always room for it.
+use Rattle.std.specs.Prelude.{Ok, Err}
 use Prim.Native.Nat.{ℕ, zero, suc, ◌+◌, ◌*◌, ◌<◌, ◌≤◌}
 use mathlib.Core.List.{List, [], ◌∷◌}
 use mathlib.Core.Path.{◌≡◌, refl, sym, ◌∙◌}
@@ -8,11 +9,9 @@ use lib.ListN.{length, replicate, length-append, length-map, length-replicate, g
 use lib.Seq.{sets-eq, length-sets, length-take-le}
 use Rattle.lists.specs.Places.{from}
 use Rattle.subjobs.specs.declared.Reason.{Reason}
-use Rattle.subjobs.specs.declared.Judgement.{Judgement}
-use Rattle.subjobs.specs.declared.Judgement.TheVariants as judgement
 use Rattle.subjobs.specs.Reasons.{number_of}
 use Rattle.subjobs.specs.Sets.{Subjobs, size}
-use Rattle.subjobs.specs.Judging.{if_passed}
+use Rattle.subjobs.specs.Judging.{Judgement, judged, if_passed}
 use Rattle.olda.specs.Answers as olda
 use Rattle.ticks.specs.Runs as ticks
 use Rattle.text.specs.Writing.{Wrote}
@@ -20,7 +19,7 @@ use Rattle.text.proofs.Printed.{line_length}
 use Rattle.table.specs.Format.{Parsed, records, refused}
 use Rattle.table.specs.Reading.{read, set_of}
 use Rattle.table.specs.Writing.{printed_line, refusal}
-use Rattle.table.specs.Answers.{line_at, joined, accepted, verdict_of, tabled, on_parsed, answer, Tables, Counts}
+use Rattle.table.specs.Answers.{line_at, joined, accepted, tabled, on_parsed, answer, Tables, Counts}
 use Rattle.table.specs.Stores.{numbers_at}
 use Rattle.table.proofs.Printing.{line_at_is, refusal_is}
 use Rattle.table.proofs.Outcomes.{Sound, in_time, accepted_sound}
@@ -48,11 +47,11 @@ accepted-length s ds w =
 
 tabled-length : (s : Subjobs) → size s ≤ 128 → length (tabled s) ≤ 7_203
 unfolding tabled
-tabled-length s m = by (verdict_of (olda.answer s (size s))) refl
+tabled-length s m = by (judged (olda.answer s (size s))) refl
   where
-    by : (j : Judgement) → verdict_of (olda.answer s (size s)) ≡ j → length (if_passed j (accepted s (olda.results s (replicate (size s) 0))) refusal) ≤ 7_203
-    by (judgement.Refused r) e = omega (arith, refusal-length r)
-    by judgement.Passed e =
+    by : (j : Judgement) → judged (olda.answer s (size s)) ≡ j → length (if_passed j (accepted s (olda.results s (replicate (size s) 0))) refusal) ≤ 7_203
+    by (Err r) e = omega (arith, refusal-length r)
+    by (Ok tt) e =
         omega (arith, accepted-length s (olda.results s (replicate (size s) 0)) (accepted_sound s (replicate (size s) 0) (length-replicate {A = ℕ} (size s) 0) e))
 
 -- No answer is longer than 7,203 bytes.

@@ -1,8 +1,9 @@
 -- What is known of a set that the assignment accepts, and of one that it refuses.
+use Rattle.std.specs.Prelude.{Option, Ok, Err}
 use Prim.Native.Nat.{ℕ, ◌<◌, ◌≤◌}
 use mathlib.Core.Bool.{true}
 use mathlib.Core.List.{List, ◌++◌}
-use mathlib.Core.Path.{◌≡◌, refl, sym, ◌∙◌}
+use mathlib.Core.Path.{◌≡◌, refl, sym, ap, ◌∙◌}
 use native.Mathlib.Omega.{arith}
 use borrow.Author.Tests.{eq-eqb}
 use lib.ListN.{length, replicate, length-replicate}
@@ -10,16 +11,13 @@ use Rattle.lists.specs.Places.{places}
 use Rattle.lists.proofs.Members.{in_places}
 use Rattle.subjobs.specs.declared.Reason.{Reason}
 use Rattle.subjobs.specs.Reasons.{place_of}
-use Rattle.subjobs.specs.declared.Judgement.{Judgement}
-use Rattle.subjobs.specs.declared.Judgement.TheVariants as judgement
 use Rattle.subjobs.specs.Sets.{Subjobs, size}
 use Rattle.subjobs.specs.Terms.{terms}
 use Rattle.subjobs.specs.Faults.{Fit}
-use Rattle.subjobs.specs.Judging.{judgement as judged, if_passed}
+use Rattle.subjobs.specs.Judging.{Judgement, passed, judged, judgement, if_passed}
 use Rattle.subjobs.proofs.Exactly.{refused_passed}
 use Rattle.subjobs.proofs.Fit.{fit}
-use Rattle.olda.specs.declared.Answer.{Answer}
-use Rattle.olda.specs.declared.Answer.TheVariants as olda-answer
+use Rattle.olda.specs.declared.Report.{Report}
 use Rattle.rules.specs.Method.{Outcome, placed, stuck, method}
 use Rattle.olda.specs.Answers as olda
 use Rattle.rules.proofs.Obeys.{method-placed}
@@ -30,13 +28,13 @@ use Rattle.edf.specs.Answers as edf
 use Rattle.ticks.proofs.Ticks as run
 use Rattle.edf.proofs.Fresh.{fresh_finishes}
 use Rattle.table.specs.Writing.{out_header, refusal}
-use Rattle.table.specs.Answers.{line_at, joined, accepted, verdict_of, tabled}
+use Rattle.table.specs.Answers.{line_at, joined, accepted, tabled}
 use Rattle.table.specs.Stores.{PrintableAt}
 use Rattle.table.proofs.Printing.{InTime}
 
 -- A set that refusals 1 to 4 pass, with the deadlines that the method gives it.
 pub record Sound (s : Subjobs) (ds : List ℕ) : Type 0 where
-  pub passed : judged s true ≡ judgement.Passed
+  pub passed : judgement s true ≡ passed
   pub is : method s ≡ placed ds
 
 -- What a sound set gives.
@@ -70,29 +68,29 @@ module _ (s : Subjobs) (ds : List ℕ) (w : Sound s ds) where
 module _ (s : Subjobs) (out : List ℕ) where
   sound_by :
       (j : Judgement) (w : Outcome)
-      → judged s true ≡ j
+      → judgement s true ≡ j
       → method s ≡ w
-      → verdict_of (if_passed j (olda.outcome s w) olda-answer.Refused) ≡ judgement.Passed
+      → judged (if_passed j (olda.outcome s w) Err) ≡ Ok tt
       → Sound s (if_passed j (olda.written w out) (λ r. out))
-  sound_by (judgement.Refused r) w p m e = refused_passed r e
-  sound_by judgement.Passed (stuck q k) p m e = refused_passed _ e
-  sound_by judgement.Passed (placed ds) p m e = record { passed = p; is = m }
+  sound_by (Err r) w p m e = refused_passed r e
+  sound_by (Ok tt) (stuck q k) p m e = refused_passed _ e
+  sound_by (Ok tt) (placed ds) p m e = record { passed = p; is = m }
 
   pub accepted_sound :
       length out ≡ size s
-      → verdict_of (olda.answer s (size s)) ≡ judgement.Passed
+      → judged (olda.answer s (size s)) ≡ Ok tt
       → Sound s (olda.results s out)
   unfolding olda.answer olda.results
   accepted_sound l e =
       rw (eq-eqb (length out) (size s) l)
-      (sound_by (judged s true) (method s) refl refl (rw (eq-eqb (size s) (size s) refl) at e))
+      (sound_by (judgement s true) (method s) refl refl (rw (eq-eqb (size s) (size s) refl) at e))
 
 -- Whatever the list held before.
 pub accepted_same :
     (s : Subjobs) (out old : List ℕ)
     → length out ≡ size s
     → length old ≡ size s
-    → verdict_of (olda.answer s (size s)) ≡ judgement.Passed
+    → judged (olda.answer s (size s)) ≡ Ok tt
     → olda.results s out ≡ olda.results s old
 accepted_same s out old l k e =
     placed_same (sym (accepted_sound s out l e).is ∙ (accepted_sound s old k e).is)
@@ -102,42 +100,36 @@ accepted_same s out old l k e =
 
 -- The output for a set, by what the assignment says.
 module _ (s : Subjobs) where
-  pub tabled_refused : (r : Reason) → verdict_of (olda.answer s (size s)) ≡ judgement.Refused r → tabled s ≡ refusal r
+  pub tabled_refused : (r : Reason) → judged (olda.answer s (size s)) ≡ Err r → tabled s ≡ refusal r
   unfolding tabled
   tabled_refused r e = rw e
 
-  pub tabled-accepted :
-      verdict_of (olda.answer s (size s)) ≡ judgement.Passed → tabled s ≡ accepted s (olda.results s (replicate (size s) 0))
+  pub tabled-accepted : judged (olda.answer s (size s)) ≡ passed → tabled s ≡ accepted s (olda.results s (replicate (size s) 0))
   unfolding tabled
   tabled-accepted e = rw e
 
-verdict_refused : (a : Answer) (r : Reason) → verdict_of a ≡ judgement.Refused r → a ≡ olda-answer.Refused r
-verdict_refused (olda-answer.Placed x) r e = cc
-verdict_refused olda-answer.Nothing r e = cc
-verdict_refused (olda-answer.Refused x) r e = cc
-
 -- With room for its deadlines and finishes, what the code finds of a set is the output that is told.
 module _ (s : Subjobs) (ds : List ℕ) (l : length ds ≡ size s) where
-  told : (j : Judgement) → verdict_of (olda.answer s (length ds)) ≡ j → verdict_of (olda.answer s (size s)) ≡ j
-  told j e = rw l at e
-
-  module _ (q : Reason) (e : verdict_of (olda.answer s (length ds)) ≡ judgement.Refused q) where
+  module _ {q : Reason} (e : olda.answer s (length ds) ≡ Err q) where
     -- A refusal names a place of the set.
     pub refused_place : size s ≤ 128 → place_of q ≤ 129
-    refused_place m = omega (arith, refused_within s (length ds) q (verdict_refused (olda.answer s (length ds)) q e))
+    refused_place m = omega (arith, refused_within s (length ds) q e)
 
     pub refused_text : tabled s ≡ refusal q
-    refused_text = tabled_refused s q (told (judgement.Refused q) e)
+    refused_text = tabled_refused s q (ap judged (rw l at e))
 
-  module _ (fs : List ℕ) (f : length fs ≡ size s) (e : verdict_of (olda.answer s (length ds)) ≡ judgement.Passed) where
+  module _ (fs : List ℕ) (f : length fs ≡ size s) {o : Option Report} (e : olda.answer s (length ds) ≡ Ok o) where
     abbrev Given : List ℕ
     Given = olda.results s ds
 
     abbrev Finished : List ℕ
     Finished = edf.finishes s Given s.executions fs (record { busy = 0; idle = 0 })
 
+    accepts : judged (olda.answer s (size s)) ≡ passed
+    accepts = ap judged (rw l at e)
+
     sound : Sound s Given
-    sound = accepted_sound s ds l (told judgement.Passed e)
+    sound = accepted_sound s ds l accepts
 
     finished : Finished ≡ (ticks.run s Given s.executions).finishes
     finished = run_finishes s Given sound fs f
@@ -158,5 +150,4 @@ module _ (s : Subjobs) (ds : List ℕ) (l : length ds ≡ size s) where
     pub accepted_text : tabled s ≡ out_header ++ joined (line_at s Given Finished) (places (size s))
     unfolding accepted
     accepted_text =
-        let p = told judgement.Passed e in
-        rw (tabled-accepted s p, accepted_same s (replicate (size s) 0) ds (length-replicate {A = ℕ} (size s) 0) l p, finished)
+        rw (tabled-accepted s accepts, accepted_same s (replicate (size s) 0) ds (length-replicate {A = ℕ} (size s) 0) l accepts, finished)

@@ -11,13 +11,10 @@
 --   Counts k l             == k counts bytes at the start of l
 use Rattle.std.specs.Prelude.{ℕ, ◌≤◌, List, [], ◌∷◌, ◌++◌, ◌≡◌, ℤ, length, get_or, take, drop, replicate}
 use Rattle.lists.specs.Places.{places}
-use Rattle.subjobs.specs.declared.Judgement.{Judgement}
-use Rattle.subjobs.specs.declared.Judgement.TheVariants as judgement
 use Rattle.subjobs.specs.Sets.{Subjobs, size, job, subtask}
 use Rattle.subjobs.specs.Terms.{terms, slack}
-use Rattle.subjobs.specs.Judging.{if_passed}
-use Rattle.olda.specs.declared.Answer.{Answer}
-use Rattle.olda.specs.declared.Answer.TheVariants as olda-answer
+use Rattle.subjobs.specs.Judging.{Judgement, judged, if_passed}
+use Rattle.olda.specs.Answers.{Answer}
 use Rattle.olda.specs.Answers as olda
 use Rattle.ticks.specs.Runs as ticks
 use Rattle.table.specs.Format.{Parsed, records, refused}
@@ -40,15 +37,13 @@ joined f (i ∷ is) = f i ++ joined f is
 unfoldable pub accepted : Subjobs → List ℕ → List ℕ
 accepted s ds = out_header ++ joined (line_at s ds (ticks.run s ds s.executions).finishes) (places (size s))
 
--- whether the assignment accepts, and why not
+-- whether the assignment accepts, and why not; `promises` says it by this name
 abbrev pub verdict_of : Answer → Judgement
-verdict_of (olda-answer.Placed r) = judgement.Passed
-verdict_of olda-answer.Nothing = judgement.Passed
-verdict_of (olda-answer.Refused r) = judgement.Refused r
+verdict_of a = judged a
 
 -- The deadlines are the assignment's own, and so are the refusals 3, 4 and 5.
 unfoldable pub tabled : Subjobs → List ℕ
-tabled s = if_passed (verdict_of (olda.answer s (size s))) (accepted s (olda.results s (replicate (size s) 0))) refusal
+tabled s = if_passed (judged (olda.answer s (size s))) (accepted s (olda.results s (replicate (size s) 0))) refusal
 
 abbrev pub on_parsed : Parsed → List ℕ
 on_parsed (records rows) = tabled (set_of rows)

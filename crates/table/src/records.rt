@@ -1,9 +1,10 @@
-// The records of a table: the numbers of each field in a list of their own, as the assignment and the simulator take them.
+// The records of a table: the numbers of each field in an array of their own, which are lent as the lists of a set.
 ghost use Rattle.std.specs.Prelude.{[], ◌<◌, ◌≤◌, ◌≡◌, take};
-ghost use Rattle.subjobs.specs.Sets.{Subjobs, subjobs, size};
+ghost use Rattle.subjobs.specs.Sets.{Subjobs, subjobs, subjobs_of, size};
 ghost use Rattle.table.specs.Stores.{pushed};
 
 use std::marker::Model;
+use subjobs::Set;
 
 // Room for 128 records, of which `count` are here.
 #[derive(Drop)]
@@ -66,39 +67,18 @@ impl Records {
         self.count += 1;
     }
 
-    pub(crate) fn jobs(&self) -> &[u32]
-        ensures { result.now ≡ self.now.jobs }
+    // The set of the sub-jobs that they tell.
+    pub(crate) fn set(&self) -> Set<'_>
+        ensures { subjobs_of result ≡ self.now }
     {
-        &self.jobs[..self.count]
-    }
-
-    pub(crate) fn subtasks(&self) -> &[u32]
-        ensures { result.now ≡ self.now.subtasks }
-    {
-        &self.subtasks[..self.count]
-    }
-
-    pub(crate) fn releases(&self) -> &[u32]
-        ensures { result.now ≡ self.now.releases }
-    {
-        &self.releases[..self.count]
-    }
-
-    pub(crate) fn executions(&self) -> &[u32]
-        ensures { result.now ≡ self.now.executions }
-    {
-        &self.executions[..self.count]
-    }
-
-    pub(crate) fn deadlines(&self) -> &[u32]
-        ensures { result.now ≡ self.now.deadlines }
-    {
-        &self.deadlines[..self.count]
-    }
-
-    pub(crate) fn criticals(&self) -> &[u32]
-        ensures { result.now ≡ self.now.criticals }
-    {
-        &self.criticals[..self.count]
+        let n = self.count;
+        Set {
+            jobs: &self.jobs[..n],
+            subtasks: &self.subtasks[..n],
+            releases: &self.releases[..n],
+            executions: &self.executions[..n],
+            deadlines: &self.deadlines[..n],
+            criticals: &self.criticals[..n],
+        }
     }
 }

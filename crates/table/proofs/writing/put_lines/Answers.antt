@@ -1,5 +1,6 @@
 -- `put_lines` meets its contract: at each turn the lines of the places passed are written.
 use Rattle.lists.specs.Places.{from}
+use Rattle.subjobs.specs.Sets.{subjobs_of}
 use Rattle.text.proofs.Stored.{none}
 use Rattle.table.specs.Answers.{joined}
 use Rattle.table.proofs.Printing.{line_more, line_at_is}
@@ -11,7 +12,6 @@ loop-i-init c = none _ _
 
 pub loop-i-preserved : goal.loop-i-preserved
 loop-i-preserved c =
-    let b = c.args in
-    let h = rw c.len-i-end.ensures.size at c.loop-i-test.true in
+    let s = subjobs_of c.args.set.now in
     line_more _ _ c.loop-i.invariant (rw c.line_at-line.ensures at c.put_record-end.ensures)
-    (line_at_is b.records.now b.local.now b.finishes.now _ (c.requires _ h).in_time)
+    (line_at_is s c.args.local.now c.args.finishes.now _ (c.requires _ c.loop-i-test.true).in_time)
