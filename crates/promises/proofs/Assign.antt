@@ -1,4 +1,5 @@
 -- What is promised of `assign` holds: its answers are those of RULES, by the laws of the rules and of refusals 1 to 4.
+use Rattle.std.specs.Prelude.{Ok, Err, Some, None}
 use Prim.Native.Nat.{ℕ, ◌+◌}
 use mathlib.Core.Bool.{true}
 use mathlib.Core.List.{List, [], ◌∷◌}
@@ -15,7 +16,6 @@ use Rattle.lists.specs.Order.{choose}
 use Rattle.lists.proofs.Cases.{split, test, clash, tests}
 use Rattle.lists.proofs.Members.{in_nil, in_places, places_in, places-nil}
 use Rattle.lists.proofs.Choice.{choose_cases, chosen_in, chosen_earliest}
-use Rattle.subjobs.specs.declared.Judgement.TheVariants as judged
 use Rattle.subjobs.specs.declared.Reason.{Reason}
 use Rattle.subjobs.specs.declared.Reason.TheVariants.{Late}
 use Rattle.subjobs.specs.Sets.{Subjobs, size}
@@ -32,7 +32,6 @@ use Rattle.rules.proofs.Rules.{tail_base, base_tail, turn_falls}
 use Rattle.rules.proofs.Obeys.{fit_ones, method-placed, method-stuck, accepted_one, refused_one, accepted_refused}
 use Rattle.rules.proofs.Accepted.{accepted_six, accepted_seven, accepted_apart}
 use Rattle.rules.proofs.Slack.{chosen_slack, least_slack_one}
-use Rattle.olda.specs.declared.Answer.TheVariants.{Placed, Nothing, Refused}
 use Rattle.olda.specs.Answers.{report, answer, results, values}
 use Rattle.promises.specs.Words.{accepted, Assigned, at}
 use Rattle.promises.specs.Assign as says
@@ -46,7 +45,7 @@ empty s d z = rw z over
 
 -- The report of deadlines ds: nothing for an empty set, and otherwise the least slack and the smallest place that has it.
 module _ (s : Subjobs) (ds : List ℕ) where
-  pub report_none : size s ≡ 0 → report s (at ds) ≡ Nothing
+  pub report_none : size s ≡ 0 → report s (at ds) ≡ None
   unfolding report
   report_none z =
       split (choose_cases (by_slack (terms s) (at ds)) (places (size s)))
@@ -56,7 +55,7 @@ module _ (s : Subjobs) (ds : List ℕ) where
   pub report-some :
       (p : ℕ)
       → choose (by_slack (terms s) (at ds)) (places (size s)) ≡ some p
-      → report s (at ds) ≡ Placed (record { slack = slack (terms s) (at ds) p; place = p })
+      → report s (at ds) ≡ Some (record { slack = slack (terms s) (at ds) p; place = p })
   unfolding report
   report-some p e = rw e
 
@@ -99,7 +98,7 @@ module _ (s : Subjobs) (ds : List ℕ) where
       (λ m. let e : q ≡ p = omega tests in w.2 ∙ ap some e)))
 
 -- A report is an acceptance.
-pub report-accepted : (s : Subjobs) (ds : List ℕ) → accepted (values (report s (at ds)))
+pub report-accepted : (s : Subjobs) (ds : List ℕ) → accepted (values (Ok (report s (at ds))))
 report-accepted s ds =
     split (choose_cases (by_slack (terms s) (at ds)) (places (size s)))
     (λ w. rw (report_none s ds (places-nil (size s) w.0)) refl)
@@ -111,19 +110,19 @@ nil (x ∷ l) e = absurd (omega arith)
 
 -- What `assign` answers and leaves, by what the judgement and the method say.
 module _ (s : Subjobs) (out : List ℕ) where
-  pub refused_answer : {r : Reason} → judgement s (results_fit s out) ≡ judged.Refused r → (answer s (length out) ≡ Refused r) × (results s out ≡ out)
+  pub refused_answer : {r : Reason} → judgement s (results_fit s out) ≡ Err r → (answer s (length out) ≡ Err r) × (results s out ≡ out)
   unfolding answer results
   refused_answer e = (rw e, rw e)
 
   module _ (f : Fit s (results_fit s out)) where
-    passed : judgement s (results_fit s out) ≡ judged.Passed
+    passed : judgement s (results_fit s out) ≡ Ok tt
     passed = fit_passes s (results_fit s out) f
 
-    pub placed-answer : (ds : List ℕ) → method s ≡ placed ds → (answer s (length out) ≡ report s (at ds)) × (results s out ≡ ds)
+    pub placed-answer : (ds : List ℕ) → method s ≡ placed ds → (answer s (length out) ≡ Ok (report s (at ds))) × (results s out ≡ ds)
     unfolding answer results
     placed-answer ds q = (rw (passed, q), rw (passed, q))
 
-    pub stuck-answer : (p m : ℕ) → method s ≡ stuck p m → (answer s (length out) ≡ Refused (Late p m (bound (terms s) p))) × (results s out ≡ out)
+    pub stuck-answer : (p m : ℕ) → method s ≡ stuck p m → (answer s (length out) ≡ Err (Late p m (bound (terms s) p))) × (results s out ≡ out)
     unfolding answer results
     stuck-answer p m q = (rw (passed, q), rw (passed, q))
 
@@ -157,11 +156,11 @@ module _ (s : Subjobs) (out : List ℕ) where
       (sym (ap values a.0), sym a.1)
   only (says.nothing f z) =
       let a = placed-answer f [] ((method-placed s f []).1 (sym z, empty s (at []) z)) in
-      (sym (ap values (a.0 ∙ report_none s [] z)), sym a.1)
+      (sym (ap values (a.0 ∙ ap Ok (report_none s [] z))), sym a.1)
   only (says.placed {ds} {p} {x} f l h r) =
       let a = placed-answer f ds ((method-placed s f ds).1 (l, h)) in
       let c = report-some s ds p (reported_chosen s ds r) in
-      (ap (λ (y : ℤ). pos 0 ∷ y ∷ pos p ∷ []) (sym r.2) ∙ sym (ap values (a.0 ∙ c)), sym a.1)
+      (ap (λ (y : ℤ). pos 0 ∷ y ∷ pos p ∷ []) (sym r.2) ∙ sym (ap values (a.0 ∙ ap Ok c)), sym a.1)
 
 pub assign_answers : AssignAnswers
 assign_answers s out = (says_so s out, λ v l h. only s out h)

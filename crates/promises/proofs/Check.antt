@@ -1,4 +1,5 @@
 -- What is promised of the checker holds, by the one law of its judgements.
+use Rattle.std.specs.Prelude.{Ok, Err}
 use Prim.Native.Nat.{ℕ, ◌<◌}
 use mathlib.Core.List.{List}
 use mathlib.Core.Logic.{◌⊎◌, inl, inr}
@@ -7,8 +8,7 @@ use native.Mathlib.Omega.{arith}
 use lib.IntN.{ℤ}
 use Rattle.lists.proofs.Cases.{split}
 use Rattle.lists.proofs.Members.{in_places, places_in}
-use Rattle.subjobs.specs.declared.Judgement.{Judgement}
-use Rattle.subjobs.specs.declared.Judgement.TheVariants as judged
+use Rattle.subjobs.specs.Judging.{Judgement}
 use Rattle.subjobs.specs.declared.Reason.{Reason}
 use Rattle.subjobs.specs.declared.Reason.TheVariants.{Unmet, Missed}
 use Rattle.subjobs.specs.Sets.{Subjobs, size}
@@ -16,7 +16,6 @@ use Rattle.subjobs.specs.Reasons as reasons
 use Rattle.subjobs.specs.Judging.{or_else}
 use Rattle.subjobs.specs.Faults.{Fit, Faulty}
 use Rattle.ticks.proofs.Keeps.{kept, met}
-use Rattle.checker.specs.declared.Answer.TheVariants.{Accepted, Refused}
 use Rattle.checker.specs.Answers as checker
 use Rattle.checker.specs.Answers.{answer, values}
 use Rattle.checker.proofs.Accepts.{checked, seven_finishes, Unmets, Misses}
@@ -29,11 +28,11 @@ module _ (s : Subjobs) (ds : List ℕ) where
   abbrev judgement : Judgement
   judgement = or_else (checker.judged s ds) (or_else (checker.six s ds) (checker.seven s ds))
 
-  passed_answer : judgement ≡ judged.Passed → answer s ds ≡ Accepted
+  passed_answer : judgement ≡ Ok tt → answer s ds ≡ Ok tt
   unfolding answer
   passed_answer e = rw e
 
-  refused_answer : {r : Reason} → judgement ≡ judged.Refused r → answer s ds ≡ Refused r
+  refused_answer : {r : Reason} → judgement ≡ Err r → answer s ds ≡ Err r
   unfolding answer
   refused_answer e = rw e
 

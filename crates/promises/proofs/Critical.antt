@@ -1,4 +1,5 @@
 -- What is promised of critical times holds.
+use Rattle.std.specs.Prelude.{Ok}
 use Prim.Native.Nat.{ℕ, suc, ◌<◌, ◌≤◌}
 use mathlib.Core.List.{List, [], ◌∷◌, map}
 use mathlib.Core.Path.{◌≡◌, refl, sym, ap, ◌∙◌}
@@ -14,7 +15,6 @@ use Rattle.lists.proofs.Mapped.{at_map, places_at}
 use Rattle.lists.proofs.Sums.{weight-nil, weight-cons}
 use Rattle.subjobs.specs.declared.Field.{Field}
 use Rattle.subjobs.specs.declared.Field.TheVariants as fields
-use Rattle.subjobs.specs.declared.Judgement.TheVariants.{Passed}
 use Rattle.subjobs.specs.declared.Reason.{Reason}
 use Rattle.subjobs.specs.declared.Reason.TheVariants as reasons
 use Rattle.subjobs.specs.Reasons as told
@@ -44,7 +44,7 @@ module _ (g : Graph) (out : List ℕ) where
   faults (graphs.cycle s c) = says.cycle (graphs.cycle s c)
 
   module _ (f : Fit g (length out)) where
-    passes : answer g (length out) ≡ Passed
+    passes : answer g (length out) ≡ Ok tt
     passes = (found_exactly g (length out)).1 f
 
     written : results g out ≡ map (critical g) (places (size g))
@@ -153,7 +153,7 @@ cycle_is_refused g n = (
   λ w. rw ((refused_exactly g n reasons.Cycle).1 (graphs.cycle w.0 w.1)) refl,
 )
   where
-    zero_not : Number 21 (values Passed) → ⊥
+    zero_not : Number 21 (values (Ok tt)) → ⊥
     zero_not e = let z : ◌≡◌ {A = ℕ} 0 21 = cc in omega arith
 
     which : {r : Reason} → Faulty g n r → Number 21 (told.values r) → Sound g n × Cycle g

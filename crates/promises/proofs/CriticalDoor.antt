@@ -1,5 +1,6 @@
 -- What is promised of `charoktan_critical` holds: what it returns and leaves is what `critical` says of the graph, in one
 -- number.
+use Rattle.std.specs.Prelude.{Ok, Err}
 use Prim.Native.Nat.{ℕ, ◌/◌, ◌%◌}
 use mathlib.Core.Bool.{true, ◌&&◌}
 use mathlib.Core.List.{List, ◌∷◌}
@@ -11,8 +12,7 @@ use lib.Dec.{eqb}
 use lib.IntN.{ℤ, pos}
 use lib.ListN.{length, length-replicate}
 use Rattle.lists.proofs.Cases.{test, clash, both}
-use Rattle.subjobs.specs.declared.Judgement.{Judgement}
-use Rattle.subjobs.specs.declared.Judgement.TheVariants.{Passed, Refused}
+use Rattle.subjobs.specs.Judging.{Judgement}
 use Rattle.subjobs.specs.declared.Reason.{Reason}
 use Rattle.subjobs.specs.Reasons.{number_of, place_of}
 use Rattle.subjobs.specs.Judging.{values}
@@ -41,13 +41,13 @@ fits es bs out w = rw (eq-eqb (length es % 4) 0 w.0, eq-eqb (length bs % 12) 0 w
 -- The values of an answer begin with 0, or are a refusal's, which begin with its number and place.
 refuses :
     {n p : ℕ} {vs : List ℤ} (a : Judgement) → pos n ∷ pos p ∷ vs ≡ values a → n ≢ 0
-    → (r : Reason) × (a ≡ Refused r) × (n ≡ number_of r) × (p ≡ place_of r)
-refuses {n} Passed e z = let q : n ≡ 0 = cc in absurd (z q)
-refuses {n} {p} (Refused r) e z = (r, refl, cc, cc)
+    → (r : Reason) × (a ≡ Err r) × (n ≡ number_of r) × (p ≡ place_of r)
+refuses {n} (Ok tt) e z = let q : n ≡ 0 = cc in absurd (z q)
+refuses {n} {p} (Err r) e z = (r, refl, cc, cc)
 
-accepts : {vs : List ℤ} (a : Judgement) → pos 0 ∷ vs ≡ values a → a ≡ Passed
-accepts Passed e = refl
-accepts (Refused r) e = let q : 0 ≡ number_of r = cc in absurd (omega (arith, (number_range r).0))
+accepts : {vs : List ℤ} (a : Judgement) → pos 0 ∷ vs ≡ values a → a ≡ Ok tt
+accepts (Ok tt) e = refl
+accepts (Err r) e = let q : 0 ≡ number_of r = cc in absurd (omega (arith, (number_range r).0))
 
 module _ (es bs out : List ℕ) where
   -- What `critical` answers on the graph, with a result list of its size.
@@ -64,14 +64,14 @@ module _ (es bs out : List ℕ) where
 
   module _ (e : fitting_graph es bs (length out) ≡ true) where
     refused_so :
-        {r : Reason} → answer (graph_of es bs) (length (room es)) ≡ Refused r
+        {r : Reason} → answer (graph_of es bs) (length (room es)) ≡ Err r
         → (code r ≡ found es bs (length out)) × (out ≡ found_bytes es bs out)
-    refused_so {r} q = let w = graph_answered es bs out e (Refused r) (asked ∙ q) in (sym w.0, sym w.1)
+    refused_so {r} q = let w = graph_answered es bs out e (Err r) (asked ∙ q) in (sym w.0, sym w.1)
 
     found_so :
-        answer (graph_of es bs) (length (room es)) ≡ Passed
+        answer (graph_of es bs) (length (room es)) ≡ Ok tt
         → (0 ≡ found es bs (length out)) × (encoded (results (graph_of es bs) (room es)) ≡ found_bytes es bs out)
-    found_so q = let w = graph_answered es bs out e Passed (asked ∙ q) in (sym w.0, sym w.1)
+    found_so q = let w = graph_answered es bs out e (Ok tt) (asked ∙ q) in (sym w.0, sym w.1)
 
     fitted : DoorCriticalSays es bs out (found es bs (length out)) (found_bytes es bs out)
     fitted = by_answer (answer (graph_of es bs) (length (room es))) refl
@@ -79,9 +79,9 @@ module _ (es bs out : List ℕ) where
         by_answer :
             (a : Judgement) → answer (graph_of es bs) (length (room es)) ≡ a
             → DoorCriticalSays es bs out (found es bs (length out)) (found_bytes es bs out)
-        by_answer (Refused r) q =
+        by_answer (Err r) q =
             let w = refused_so q in rw (← w.0, ← w.1) (says.refused (whole es bs out e) (rw q at said) (not_0 r))
-        by_answer Passed q = let w = found_so q in rw (← w.0, ← w.1) (says.accepted (whole es bs out e) (rw q at said))
+        by_answer (Ok tt) q = let w = found_so q in rw (← w.0, ← w.1) (says.accepted (whole es bs out e) (rw q at said))
 
   says_so : DoorCriticalSays es bs out (found es bs (length out)) (found_bytes es bs out)
   says_so =

@@ -1,5 +1,6 @@
 -- What is promised of the engine's door holds: what it returns and leaves is what the assignment and the checker say of the
 -- records, in one number.
+use Rattle.std.specs.Prelude.{Ok, Err, Some, None}
 use Prim.Native.Nat.{ℕ, ◌+◌, ◌*◌, ◌/◌, ◌%◌, ◌<◌}
 use mathlib.Core.Bool.{true}
 use mathlib.Core.List.{List, [], ◌∷◌}
@@ -16,12 +17,9 @@ use Rattle.subjobs.specs.declared.Reason.{Reason}
 use Rattle.subjobs.specs.Reasons.{number_of, place_of}
 use Rattle.subjobs.specs.Sets.{Subjobs, size}
 use Rattle.subjobs.proofs.Reported.{number_range}
-use Rattle.olda.specs.declared.Answer.{Answer}
-use Rattle.olda.specs.declared.Answer.TheVariants.{Placed, Nothing, Refused}
+use Rattle.olda.specs.Answers.{Answer}
 use Rattle.olda.specs.Answers as olda
 use Rattle.olda.proofs.Results as results
-use Rattle.checker.specs.declared.Answer as checking
-use Rattle.checker.specs.declared.Answer.TheVariants as check
 use Rattle.checker.specs.Answers as checker
 use Rattle.checker.proofs.Reported as reported
 use Rattle.charoktan.specs.Records.{count, records, encoded, words, fitting}
@@ -56,26 +54,26 @@ pub assign_refuses :
     {n p : ℕ} {vs : List ℤ} (a : Answer)
     → pos n ∷ pos p ∷ vs ≡ olda.values a
     → n ≢ 0
-    → (r : Reason) × (a ≡ Refused r) × (n ≡ number_of r) × (p ≡ place_of r)
-assign_refuses {n} (Placed r) e z = let q : n ≡ 0 = cc in absurd (z q)
-assign_refuses {n} Nothing e z = let q : n ≡ 0 = cc in absurd (z q)
-assign_refuses {n} {p} (Refused r) e z = (r, refl, cc, cc)
+    → (r : Reason) × (a ≡ Err r) × (n ≡ number_of r) × (p ≡ place_of r)
+assign_refuses {n} (Ok (Some r)) e z = let q : n ≡ 0 = cc in absurd (z q)
+assign_refuses {n} (Ok None) e z = let q : n ≡ 0 = cc in absurd (z q)
+assign_refuses {n} {p} (Err r) e z = (r, refl, cc, cc)
 
 check_refuses :
-    {n p : ℕ} {vs : List ℤ} (a : checking.Answer)
+    {n p : ℕ} {vs : List ℤ} (a : checker.Answer)
     → pos n ∷ pos p ∷ vs ≡ checker.values a
     → n ≢ 0
-    → (r : Reason) × (a ≡ check.Refused r) × (n ≡ number_of r) × (p ≡ place_of r)
-check_refuses {n} check.Accepted e z = let q : n ≡ 0 = cc in absurd (z q)
-check_refuses {n} {p} (check.Refused r) e z = (r, refl, cc, cc)
+    → (r : Reason) × (a ≡ Err r) × (n ≡ number_of r) × (p ≡ place_of r)
+check_refuses {n} (Ok tt) e z = let q : n ≡ 0 = cc in absurd (z q)
+check_refuses {n} {p} (Err r) e z = (r, refl, cc, cc)
 
-check_accepts : {vs : List ℤ} (a : checking.Answer) → pos 0 ∷ vs ≡ checker.values a → a ≡ check.Accepted
-check_accepts check.Accepted e = refl
-check_accepts (check.Refused r) e = let q : 0 ≡ number_of r = cc in absurd (omega (arith, (number_range r).0))
+check_accepts : {vs : List ℤ} (a : checker.Answer) → pos 0 ∷ vs ≡ checker.values a → a ≡ Ok tt
+check_accepts (Ok tt) e = refl
+check_accepts (Err r) e = let q : 0 ≡ number_of r = cc in absurd (omega (arith, (number_range r).0))
 
-check_taken : (a : checking.Answer) → accepted (checker.values a) → a ≡ check.Accepted
-check_taken check.Accepted e = refl
-check_taken (check.Refused r) e = absurd (refused_number r e)
+check_taken : (a : checker.Answer) → accepted (checker.values a) → a ≡ Ok tt
+check_taken (Ok tt) e = refl
+check_taken (Err r) e = absurd (refused_number r e)
 
 -- "Nothing to place" is said of an empty set alone, and leaves an empty list.
 pub nothing_placed :
@@ -99,9 +97,9 @@ module _ (bs out : List ℕ) where
 
   module _ (e : fitting bs (length out) ≡ true) where
     refused_so :
-        {r : Reason} → olda.answer (records bs) (length (room bs)) ≡ Refused r
+        {r : Reason} → olda.answer (records bs) (length (room bs)) ≡ Err r
         → (code r ≡ assigned bs (length out)) × (out ≡ assigned_bytes bs out)
-    refused_so {r} q = let w = answered bs out e (Refused r) (asked ∙ q) in (sym w.0, sym w.1)
+    refused_so {r} q = let w = answered bs out e (Err r) (asked ∙ q) in (sym w.0, sym w.1)
 
     placed_so :
         {ds : List ℕ} (a : Answer)
@@ -109,15 +107,15 @@ module _ (bs out : List ℕ) where
         → accepted (olda.values a)
         → AssignSays (records bs) (room bs) (olda.values a) ds
         → (0 ≡ assigned bs (length out)) × (encoded ds ≡ assigned_bytes bs out)
-    placed_so {ds} (Placed r) q acc h =
-        let w = answered bs out e (Placed r) (asked ∙ q) in
+    placed_so {ds} (Ok (Some r)) q acc h =
+        let w = answered bs out e (Ok (Some r)) (asked ∙ q) in
         (sym w.0, ap encoded ((assign_answers (records bs) (room bs)).1 _ ds h).1 ∙ sym w.1)
-    placed_so {ds} Nothing q acc h =
+    placed_so {ds} (Ok None) q acc h =
         let w = nothing_placed (records bs) (room bs) h refl in
         let none : length out ≡ 0 = omega (arith, fit_length bs (length out) e, size-records bs, w.0) in
-        let a = answered bs out e Nothing (asked ∙ q) in
+        let a = answered bs out e (Ok None) (asked ∙ q) in
         (sym a.0, ap encoded w.1 ∙ nil (encoded []) (length-encoded []) ∙ sym (nil out none) ∙ sym a.1)
-    placed_so (Refused r) q acc h = absurd (refused_number r acc)
+    placed_so (Err r) q acc h = absurd (refused_number r acc)
 
     fitted : DoorAssignSays bs out (assigned bs (length out)) (assigned_bytes bs out)
     fitted = by_answer (olda.answer (records bs) (length (room bs))) refl
@@ -126,16 +124,16 @@ module _ (bs out : List ℕ) where
             (a : Answer)
             → olda.answer (records bs) (length (room bs)) ≡ a
             → DoorAssignSays bs out (assigned bs (length out)) (assigned_bytes bs out)
-        by_answer (Refused r) q =
+        by_answer (Err r) q =
             let w = refused_so q in
             rw (← w.0, ← w.1) (says.refused (whole bs out e) (rw q at said) (not_0 r))
-        by_answer (Placed r) q =
+        by_answer (Ok (Some r)) q =
             let h = rw q at said in
-            let w = placed_so (Placed r) q refl h in
+            let w = placed_so (Ok (Some r)) q refl h in
             rw (← w.0, ← w.1) (says.placed (whole bs out e) h)
-        by_answer Nothing q =
+        by_answer (Ok None) q =
             let h = rw q at said in
-            let w = placed_so Nothing q refl h in
+            let w = placed_so (Ok None) q refl h in
             rw (← w.0, ← w.1) (says.placed (whole bs out e) h)
 
   says_so : DoorAssignSays bs out (assigned bs (length out)) (assigned_bytes bs out)
@@ -194,28 +192,28 @@ module _ (bs ds : List ℕ) where
     where
       by_answer :
           fitting bs (length ds) ≡ true
-          → (a : checking.Answer)
+          → (a : checker.Answer)
           → checker.answer (records bs) (words ds (count bs)) ≡ a
           → DoorCheckSays bs ds (checked bs ds)
-      by_answer e check.Accepted q =
-          rw (answered_check bs ds e check.Accepted q)
+      by_answer e (Ok tt) q =
+          rw (answered_check bs ds e (Ok tt) q)
           (says.met (whole bs ds e) (rw q at (check_answers (records bs) (words ds (count bs))).0))
-      by_answer e (check.Refused r) q =
-          rw (answered_check bs ds e (check.Refused r) q)
+      by_answer e (Err r) q =
+          rw (answered_check bs ds e (Err r) q)
           (says.refused (whole bs ds e) (rw q at (check_answers (records bs) (words ds (count bs))).0) (not_0 r))
 
   refused_check : {n p : ℕ} {vs : List ℤ} → Whole bs ds → CheckSays (records bs) (words ds (count bs)) (pos n ∷ pos p ∷ vs) → n ≢ 0 → n + 65_536 * p ≡ checked bs ds
   refused_check w h z =
       let v = (check_answers (records bs) (words ds (count bs))).1 _ h in
       let q = check_refuses (checker.answer (records bs) (words ds (count bs))) v z in
-      omega (arith, answered_check bs ds (fits bs ds w) (check.Refused q.0) q.1, q.2, q.3)
+      omega (arith, answered_check bs ds (fits bs ds w) (Err q.0) q.1, q.2, q.3)
 
   check_only : {n : ℕ} → DoorCheckSays bs ds n → n ≡ checked bs ds
   check_only (says.lengths h) = test (fitting bs (length ds)) (λ e. absurd (h (whole bs ds e))) (λ n. sym (unfit_check bs ds n))
   check_only (says.refused w h z) = refused_check w h z
   check_only (says.met w h) =
       sym
-      (answered_check bs ds (fits bs ds w) check.Accepted
+      (answered_check bs ds (fits bs ds w) (Ok tt)
       (check_accepts (checker.answer (records bs) (words ds (count bs))) ((check_answers (records bs) (words ds (count bs))).1 _ h)))
 
 pub door_checks : DoorChecks
@@ -270,5 +268,5 @@ door_agrees bs out z =
     let back = read_back bs ds w.1 in
     let same : length (encoded ds) ≡ length out = omega (arith, length-encoded ds, back.0, w.0.1) in
     rw w.2
-    (answered_check bs (encoded ds) (fits bs (encoded ds) (w.0.0, same ∙ w.0.1)) check.Accepted
+    (answered_check bs (encoded ds) (fits bs (encoded ds) (w.0.0, same ∙ w.0.1)) (Ok tt)
     (check_taken (checker.answer s (words (encoded ds) (count bs))) (rw back.1 (checker_agrees s ds w.1))))

@@ -1,4 +1,5 @@
 -- Numbers 1 to 4 in RULES' numbers: a judgement refuses with just these values, and only such.
+use Rattle.std.specs.Prelude.{Err}
 use mathlib.Core.Bool.{Bool}
 use mathlib.Core.List.{List}
 use mathlib.Core.Logic.{◌⊎◌, inl, inr}
@@ -7,7 +8,6 @@ use native.Mathlib.Omega.{arith}
 use lib.IntN.{ℤ}
 use Rattle.lists.proofs.Cases.{split}
 use Rattle.subjobs.specs.declared.Reason.{Reason}
-use Rattle.subjobs.specs.declared.Judgement.TheVariants.{Refused}
 use Rattle.subjobs.specs.Reasons.{number_of, values}
 use Rattle.subjobs.specs.Sets.{Subjobs}
 use Rattle.subjobs.specs.Judging.{judgement}
@@ -26,14 +26,14 @@ module _ (s : Subjobs) (others : Bool) where
   faults (subjobs.pair p j l m a h b k e) = pair (subjobs.pair p j l m a h b k e)
 
   -- .. and values that RULES has are a refusal's.
-  pub faulted : {v : List ℤ} → Faults s others v → (r : Reason) × (judgement s others ≡ Refused r) × (v ≡ values r) × Faulty s others r
+  pub faulted : {v : List ℤ} → Faults s others v → (r : Reason) × (judgement s others ≡ Err r) × (v ≡ values r) × Faulty s others r
   faulted (lengths f) = (_, (judged_exactly s others _).1 f, refl, f)
   faulted (many f) = (_, (judged_exactly s others _).1 f, refl, f)
   faulted (range f) = (_, (judged_exactly s others _).1 f, refl, f)
   faulted (pair f) = (_, (judged_exactly s others _).1 f, refl, f)
 
   -- A judgement refuses with values of RULES, or the set fits.
-  pub judged_cases : ((r : Reason) × (judgement s others ≡ Refused r) × Faults s others (values r)) ⊎ Fit s others
+  pub judged_cases : ((r : Reason) × (judgement s others ≡ Err r) × Faults s others (values r)) ⊎ Fit s others
   judged_cases =
       split (judged s others).holds (λ f. inr f) (λ q. inl (q.0, (judged s others).refuses q.0 q.1, faults q.1))
 

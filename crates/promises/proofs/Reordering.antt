@@ -1,5 +1,6 @@
 -- What is promised of rearranged lists holds: refusals 1 to 4 keep their number, and the renaming laws of the rules and of
 -- the core carry the rest.
+use Rattle.std.specs.Prelude.{Err}
 use Prim.Native.Nat.{ℕ, ◌≤◌}
 use mathlib.Core.Bool.{Bool}
 use mathlib.Core.List.{List}
@@ -12,7 +13,6 @@ use Rattle.lists.proofs.Cases.{split}
 use Rattle.lists.proofs.Members.{in_places, places_in, places-nil}
 use Rattle.lists.proofs.Choice.{choose_cases}
 use Rattle.lists.proofs.Taken.{standing, taken-length}
-use Rattle.subjobs.specs.declared.Judgement.TheVariants as judged
 use Rattle.subjobs.specs.declared.Reason.{Reason}
 use Rattle.subjobs.specs.Reasons as reasons
 use Rattle.subjobs.specs.Reasons.{number_of, field_number}
@@ -58,7 +58,7 @@ module _ (s : Subjobs) (ps : List ℕ) (r : Rearranges ps (size s)) where
       → OneLength s others
       → Faulty s others q
       → (q' : Reason)
-      × (judgement s' others ≡ judged.Refused q')
+      × (judgement s' others ≡ Err q')
       × ((n p f p' f' : ℕ) × (reasons.values q ≡ refusal n p f) × (reasons.values q' ≡ refusal n p' f') × (2 ≤ n) × (n ≤ 4))
   faulty_moves others q l h =
       let w = same_refused (rearranged_judged ps s r others l) ((fit.judged_exactly s others q).1 h) in

@@ -13,11 +13,11 @@ use Rattle.lists.specs.Places.{Rearranges, taken}
 use Rattle.lists.proofs.Cases.{split, test, both}
 use Rattle.lists.proofs.Members.{in_places, places_in}
 use Rattle.lists.proofs.Taken.{standing, taken-length}
-use Rattle.subjobs.specs.declared.Judgement.{Judgement}
+use Rattle.subjobs.specs.Judging.{Judgement}
 use Rattle.subjobs.specs.declared.Reason.{Reason}
 use Rattle.subjobs.specs.Reasons.{number_of}
 use Rattle.subjobs.specs.Sets.{Subjobs, size, rearranged}
-use Rattle.subjobs.specs.Judging.{or_else, if_passed}
+use Rattle.subjobs.specs.Judging.{or_else}
 use Rattle.subjobs.specs.Faults.{OneLength, Fit, Faulty}
 use Rattle.subjobs.proofs.Exactly.{SameNumber, pass, refuse, same_or, same_exactly}
 use Rattle.subjobs.proofs.Fit as fit
@@ -29,7 +29,6 @@ use Rattle.edf.specs.Answers as edf
 use Rattle.edf.specs.Answers.{further_lists, added, above}
 use Rattle.ticks.specs.Runs.{Run, run}
 use Rattle.ticks.proofs.Rearranging.{moved_run, run_moved}
-use Rattle.checker.specs.declared.Answer.TheVariants.{Accepted, Refused}
 use Rattle.checker.specs.Answers as checker
 use Rattle.checker.proofs.Accepts.{six_exactly, seven_exactly}
 use Rattle.promises.specs.Words.{Number, at}
@@ -168,8 +167,8 @@ module _ (s : Subjobs) (ps ds : List ℕ) (l : OneLength s (proposed_fit s ds)) 
 number_alike :
     {j j' : Judgement} (n : ℕ)
     → SameNumber j j'
-    → Number n (checker.values (if_passed j Accepted Refused))
-    → Number n (checker.values (if_passed j' Accepted Refused))
+    → Number n (checker.values j)
+    → Number n (checker.values j')
 number_alike n pass h = h
 number_alike n (refuse e) h = ap pos (sym e) ∙ h
 

@@ -1,5 +1,6 @@
 -- The door's room is the room of the lists that its bytes hold: set by set, what `charoktan_assign` makes of the records is
 -- what `assign` makes of the stretches.
+use Rattle.std.specs.Prelude.{Ok, Err, Some, None}
 use Prim.Native.Nat.{ℕ, ◌+◌, ◌*◌, ◌/◌, ◌%◌, ◌<◌, ◌≤◌}
 use mathlib.Core.Bool.{true}
 use mathlib.Core.List.{List}
@@ -15,8 +16,7 @@ use Rattle.subjobs.specs.declared.Reason.TheVariants.{TooLarge}
 use Rattle.subjobs.specs.Sets.{Subjobs, size}
 use Rattle.subjobs.specs.Judging.{values}
 use Rattle.subjobs.proofs.Reported.{number_range}
-use Rattle.olda.specs.declared.Answer.{Answer}
-use Rattle.olda.specs.declared.Answer.TheVariants.{Placed, Nothing, Refused}
+use Rattle.olda.specs.Answers.{Answer}
 use Rattle.olda.specs.Answers as olda
 use Rattle.olda.proofs.Results as results
 use Rattle.stretches.specs.Stretches.{stretch, start}
@@ -61,10 +61,10 @@ module _ (bs out : List ℕ) (w : Whole bs out) where
       by_answer :
           (a : Answer) → olda.answer (records bs) (count bs) ≡ a
           → (assigned bs (length out) % 65_536 ≡ number a) × (assigned bs (length out) / 65_536 ≡ place a)
-      by_answer (Placed r) q = let e = (answered bs out (fits bs out w) (Placed r) q).0 in (omega arith, omega arith)
-      by_answer Nothing q = let e = (answered bs out (fits bs out w) Nothing q).0 in (omega arith, omega arith)
-      by_answer (Refused r) q =
-          let e = (answered bs out (fits bs out w) (Refused r) q).0 in
+      by_answer (Ok (Some r)) q = let e = (answered bs out (fits bs out w) (Ok (Some r)) q).0 in (omega arith, omega arith)
+      by_answer (Ok None) q = let e = (answered bs out (fits bs out w) (Ok None) q).0 in (omega arith, omega arith)
+      by_answer (Err r) q =
+          let e = (answered bs out (fits bs out w) (Err r) q).0 in
           let n = number_range r in
           let p = results.refused_within (records bs) (count bs) r q in
           (omega arith, omega arith)

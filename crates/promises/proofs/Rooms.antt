@@ -1,4 +1,5 @@
 -- What is promised of a room holds: what comes of each set is what `assign` says of it, in that set's own stretch.
+use Rattle.std.specs.Prelude.{Ok, Err, Some, None}
 use Prim.Native.Nat.{ℕ, ◌*◌, ◌<◌}
 use mathlib.Core.List.{List, ◌∷◌}
 use mathlib.Core.Path.{◌≡◌, refl, sym, ap, ◌∙◌, subst}
@@ -11,8 +12,7 @@ use Rattle.subjobs.specs.declared.Reason.{Reason}
 use Rattle.subjobs.specs.Reasons as told
 use Rattle.subjobs.specs.Sets.{Subjobs, size}
 use Rattle.subjobs.specs.Judging.{values}
-use Rattle.olda.specs.declared.Answer.{Answer}
-use Rattle.olda.specs.declared.Answer.TheVariants.{Placed, Nothing, Refused}
+use Rattle.olda.specs.Answers.{Answer}
 use Rattle.olda.specs.Answers as olda
 use Rattle.stretches.specs.Stretches.{start}
 use Rattle.stretches.specs.Answers.{Room, room, number, place, judgement, deadlines_after, numbers_after, places_after}
@@ -31,19 +31,19 @@ use Rattle.promises.proofs.Door.{not_0, assign_refuses}
 
 -- An answer's number is the first of its values.
 number_first : {n : ℕ} {vs : List ℤ} (a : Answer) → pos n ∷ vs ≡ olda.values a → n ≡ number a
-number_first (Placed r) e = cc
-number_first Nothing e = cc
-number_first (Refused r) e = cc
+number_first (Ok (Some r)) e = cc
+number_first (Ok None) e = cc
+number_first (Err r) e = cc
 
 pub accepted-number : (a : Answer) → accepted (olda.values a) → number a ≡ 0
-accepted-number (Placed r) e = refl
-accepted-number Nothing e = refl
-accepted-number (Refused r) e = absurd (refused_number r e)
+accepted-number (Ok (Some r)) e = refl
+accepted-number (Ok None) e = refl
+accepted-number (Err r) e = absurd (refused_number r e)
 
 pub number-accepted : (a : Answer) → number a ≡ 0 → accepted (olda.values a) × (place a ≡ 0)
-number-accepted (Placed r) e = (refl, refl)
-number-accepted Nothing e = (refl, refl)
-number-accepted (Refused r) e = absurd (not_0 r e)
+number-accepted (Ok (Some r)) e = (refl, refl)
+number-accepted (Ok None) e = (refl, refl)
+number-accepted (Err r) e = absurd (not_0 r e)
 
 -- One set.
 module _ (s : Subjobs) (out : List ℕ) where
@@ -54,9 +54,9 @@ module _ (s : Subjobs) (out : List ℕ) where
   set_says = by_answer answer (assign_answers s out).0
     where
       by_answer : (a : Answer) → AssignSays s out (olda.values a) (olda.results s out) → SetSays s out (number a) (place a) (olda.results s out)
-      by_answer (Placed r) h = says.placed h
-      by_answer Nothing h = says.placed h
-      by_answer (Refused r) h = says.refused h (not_0 r)
+      by_answer (Ok (Some r)) h = says.placed h
+      by_answer (Ok None) h = says.placed h
+      by_answer (Err r) h = says.refused h (not_0 r)
 
   set_only : {n p : ℕ} {l : List ℕ} → SetSays s out n p l → (n ≡ number answer) × (p ≡ place answer) × (l ≡ olda.results s out)
   set_only (says.placed h) =

@@ -1,4 +1,5 @@
 -- What is promised of the simulator holds: its answers are those of RULES, and a run's numbers are the single-tick core's.
+use Rattle.std.specs.Prelude.{Ok, Err}
 use Prim.Native.Nat.{ℕ, ◌+◌, ◌<◌, ◌≤◌}
 use mathlib.Core.Bool.{Bool, true, false}
 use mathlib.Core.List.{List}
@@ -11,7 +12,6 @@ use lib.IntN.{ℤ}
 use lib.ListN.{length}
 use Rattle.lists.proofs.Cases.{split, test, tests}
 use Rattle.lists.proofs.Members.{in_places}
-use Rattle.subjobs.specs.declared.Judgement.TheVariants as judged
 use Rattle.subjobs.specs.declared.Reason.{Reason}
 use Rattle.subjobs.specs.declared.Reason.TheVariants as reason
 use Rattle.subjobs.specs.Sets.{Subjobs, size}
@@ -22,8 +22,7 @@ use Rattle.ticks.specs.Runs.{due, load, run}
 use Rattle.ticks.proofs.Service.{counters, served_most}
 use Rattle.ticks.proofs.Finishes.{finish_by}
 use Rattle.ticks.proofs.Ticks.{finish_at, run_nothing, run_ticks, run-busy, run_finish}
-use Rattle.edf.specs.declared.Answer.{Answer}
-use Rattle.edf.specs.declared.Answer.TheVariants.{Ran, Refused}
+use Rattle.edf.specs.Answers.{Answer}
 use Rattle.edf.specs.declared.Totals.{Totals}
 use Rattle.edf.specs.Answers.{added, above, further_lists, answer, totals, finishes, values}
 use Rattle.promises.specs.Words.{accepted, served, finish}
@@ -41,21 +40,21 @@ module _ (s : Subjobs) (ds asks fs : List ℕ) (t : Totals) where
   Leaves r l u =
       (answer s ds asks (length fs) t ≡ r) × (finishes s ds asks fs t ≡ l) × (totals s ds asks (length fs) t ≡ u)
 
-  pub refused_leaves : {r : Reason} → judgement s further ≡ judged.Refused r → Leaves (Refused r) fs t
+  pub refused_leaves : {r : Reason} → judgement s further ≡ Err r → Leaves (Err r) fs t
   unfolding answer finishes totals
   refused_leaves e = (rw e, rw e, rw e)
 
   module _ (f : Fit s further) where
-    passed : judgement s further ≡ judged.Passed
+    passed : judgement s further ≡ Ok tt
     passed = fit_passes s further f
 
-    pub above_leaves : above (added (run s ds asks) t) ≡ true → Leaves (Refused reason.Totals) fs t
+    pub above_leaves : above (added (run s ds asks) t) ≡ true → Leaves (Err reason.Totals) fs t
     unfolding answer finishes totals
     above_leaves e = (rw (passed, e), rw (passed, e), rw (passed, e))
 
     pub ran_leaves :
         above (added (run s ds asks) t) ≡ false
-        → Leaves (Ran (record { end = (run s ds asks).end })) (run s ds asks).finishes (added (run s ds asks) t)
+        → Leaves (Ok (record { end = (run s ds asks).end })) (run s ds asks).finishes (added (run s ds asks) t)
     unfolding answer finishes totals
     ran_leaves e = (rw (passed, e), rw (passed, e), rw (passed, e))
 
@@ -141,8 +140,8 @@ ran_adds :
     → accepted (values r)
     → totals s ds asks n t ≡ added (run s ds asks) t
 unfolding totals
-ran_adds s ds asks n t (Ran p) e a = rw e
-ran_adds s ds asks n t (Refused r) e a = absurd (refused_number r a)
+ran_adds s ds asks n t (Ok p) e a = rw e
+ran_adds s ds asks n t (Err r) e a = absurd (refused_number r a)
 
 pub runs_add_up : RunsAddUp
 runs_add_up s s' ds asks ds' asks' n n' t a a' =

@@ -1,5 +1,6 @@
 -- What is promised of the table program's text holds: reading by the law of `table`, the rest by what is promised of
 -- `assign`.
+use Rattle.std.specs.Prelude.{Ok, Err, Some, None}
 use Prim.Native.Nat.{ℕ, ◌≤◌}
 use mathlib.Core.Bool.{true}
 use mathlib.Core.List.{List, map}
@@ -9,7 +10,6 @@ use borrow.Author.Tests.{eq-eqb}
 use lib.Dec.{eqb}
 use lib.ListN.{length, get_or, replicate, length-map, length-replicate}
 use Rattle.lists.proofs.Cases.{split}
-use Rattle.subjobs.specs.declared.Judgement.TheVariants as judged
 use Rattle.subjobs.specs.declared.Reason.{Reason}
 use Rattle.subjobs.specs.declared.Reason.TheVariants.{Late}
 use Rattle.subjobs.specs.Terms.{terms, bound}
@@ -21,8 +21,7 @@ use Rattle.subjobs.specs.Faults.{OneLength, Fit, Faulty}
 use Rattle.subjobs.proofs.Fit.{fit_passes, judged, judged_exactly}
 use Rattle.rules.specs.Method.{Outcome, placed, stuck, method}
 use Rattle.rules.proofs.Obeys.{method-placed, method-stuck}
-use Rattle.olda.specs.declared.Answer.{Answer}
-use Rattle.olda.specs.declared.Answer.TheVariants.{Placed, Nothing, Refused}
+use Rattle.olda.specs.Answers.{Answer}
 use Rattle.olda.specs.Answers as olda
 use Rattle.table.specs.Format as format
 use Rattle.table.specs.Format.{Rows, Parsed, records, refused, Reads}
@@ -32,7 +31,8 @@ use Rattle.table.specs.Answers as table
 use Rattle.table.proofs.Exactly.{read_exactly}
 use Rattle.table.proofs.Longest.{answer-length}
 use Rattle.table.proofs.OneLine.{accepted_lines}
-use Rattle.table.specs.Answers.{verdict_of, tabled, answer}
+use Rattle.subjobs.specs.Judging as judging
+use Rattle.table.specs.Answers.{tabled, answer}
 use Rattle.promises.specs.Words.{accepted, Assigned, at}
 use Rattle.promises.specs.Text as says
 use Rattle.promises.specs.Text.{refused_line, printed, Tabled, TableSays, TableAnswers, OneLineEach, AnswerFits}
@@ -40,10 +40,10 @@ use Rattle.promises.proofs.Faulted.{refused_number}
 use Rattle.promises.proofs.Assign.{refused_answer, placed-answer, stuck-answer, report-accepted, assigned_rules}
 
 -- An answer whose number is 0 is no refusal.
-no_refusal : (a : Answer) → accepted (olda.values a) → verdict_of a ≡ judged.Passed
-no_refusal (Placed r) h = refl
-no_refusal Nothing h = refl
-no_refusal (Refused r) h = absurd (refused_number r h)
+no_refusal : (a : Answer) → accepted (olda.values a) → judging.judged a ≡ Ok tt
+no_refusal (Ok (Some r)) h = refl
+no_refusal (Ok None) h = refl
+no_refusal (Err r) h = absurd (refused_number r h)
 
 -- A refusal's line has its number and the line that it names.
 line_of_lem : (r : Reason) → refusal r ≡ refused_line (number_of r) (printed_line r)
@@ -79,17 +79,17 @@ module _ (s : Subjobs) where
   lent : eqb (length room) (size s) ≡ true
   lent = eq-eqb (length room) (size s) long
 
-  tabled_refused : {r : Reason} → olda.answer s (size s) ≡ Refused r → tabled s ≡ refusal r
+  tabled_refused : {r : Reason} → olda.answer s (size s) ≡ Err r → tabled s ≡ refusal r
   unfolding tabled
   tabled_refused e = rw e
 
-  tabled_passed : {ds : List ℕ} → verdict_of (olda.answer s (size s)) ≡ judged.Passed → olda.results s room ≡ ds → tabled s ≡ printed s ds
+  tabled_passed : {ds : List ℕ} → judging.judged (olda.answer s (size s)) ≡ Ok tt → olda.results s room ≡ ds → tabled s ≡ printed s ds
   unfolding tabled table.accepted
   tabled_passed e q = rw (e, q)
 
-  judged_refused : {r : Reason} → judgement s true ≡ judged.Refused r → tabled s ≡ refusal r
+  judged_refused : {r : Reason} → judgement s true ≡ Err r → tabled s ≡ refusal r
   judged_refused {r} e =
-      let j : judgement s (eqb (length room) (size s)) ≡ judged.Refused r = rw lent e in
+      let j : judgement s (eqb (length room) (size s)) ≡ Err r = rw lent e in
       tabled_refused (ap (olda.answer s) (sym long) ∙ (refused_answer s room j).0)
 
   module _ (f : Fit s true) where
@@ -102,7 +102,7 @@ module _ (s : Subjobs) where
     is_placed : {ds : List ℕ} → method s ≡ placed ds → tabled s ≡ printed s ds
     is_placed {ds} q =
         let a = placed-answer s room fits ds q in
-        tabled_passed (ap (λ (n : ℕ). verdict_of (olda.answer s n)) (sym long) ∙ ap verdict_of a.0 ∙ no_refusal (olda.report s (at ds)) (report-accepted s ds)) a.1
+        tabled_passed (ap (λ (n : ℕ). judging.judged (olda.answer s n)) (sym long) ∙ ap judging.judged a.0 ∙ no_refusal (Ok (olda.report s (at ds))) (report-accepted s ds)) a.1
 
     pub gives : {ds : List ℕ} → method s ≡ placed ds → Assigned s ds
     gives {ds} q = let a = placed-answer s room fits ds q in (room, rw a.0 (report-accepted s ds), a.1)

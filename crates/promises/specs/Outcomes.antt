@@ -7,21 +7,18 @@
 --   OneDoorRoom   == two outcomes that the contract of an entry allows are equal
 --   OneJudge, OneLengths, OneTell, OneRecord, OneAfterLine, OneWrite == the same of the functions that the entries share
 use Rattle.std.specs.Prelude.{ℕ, Bool, List, Option, ◌≢◌, ◌≡◌, length}
-use Rattle.subjobs.specs.declared.Judgement.{Judgement}
+use Rattle.subjobs.specs.Judging.{Judgement}
 use Rattle.subjobs.specs.declared.Reason.{Reason}
 use Rattle.subjobs.specs.declared.Told.{Told}
 use Rattle.subjobs.specs.Sets.{Subjobs}
 use Rattle.subjobs.specs.Reasons.{tell}
 use Rattle.subjobs.specs.Judging.{one_length, values, Judges}
-use Rattle.olda.specs.declared.Answer as placing
 use Rattle.olda.specs.Answers as olda
 use Rattle.stretches.specs.Answers as rooms
 use Rattle.stretches.specs.Answers.{Room, room}
-use Rattle.edf.specs.declared.Answer as running
 use Rattle.edf.specs.declared.Simulated.{Simulated}
 use Rattle.edf.specs.declared.Totals.{Totals}
 use Rattle.edf.specs.Answers as edf
-use Rattle.checker.specs.declared.Answer as checking
 use Rattle.checker.specs.Answers as checker
 use Rattle.text.specs.Reading.{after_line, Recorded}
 use Rattle.text.specs.Writing.{Wrote}
@@ -88,7 +85,7 @@ WritesAll =
 -- are the contracts' own words.
 abbrev pub OneAssign : Type 0
 OneAssign =
-    (s : Subjobs) (out new other : List ℕ) (r q : placing.Answer)
+    (s : Subjobs) (out new other : List ℕ) (r q : olda.Answer)
     → olda.Assigns s out r new
     → olda.Assigns s out q other
     → (r ≡ q) × (new ≡ other)
@@ -102,13 +99,13 @@ OneSimulate =
 
 abbrev pub OneRun : Type 0
 OneRun =
-    (s : Subjobs) (ds asks fs new other : List ℕ) (t u v : Totals) (r q : running.Answer)
+    (s : Subjobs) (ds asks fs new other : List ℕ) (t u v : Totals) (r q : edf.Answer)
     → edf.Runs s ds asks fs t r u new
     → edf.Runs s ds asks fs t q v other
     → (r ≡ q) × (u ≡ v) × (new ≡ other)
 
 abbrev pub OneCheck : Type 0
-OneCheck = (s : Subjobs) (ds : List ℕ) (r q : checking.Answer) → checker.Checks s ds r → checker.Checks s ds q → r ≡ q
+OneCheck = (s : Subjobs) (ds : List ℕ) (r q : checker.Answer) → checker.Checks s ds r → checker.Checks s ds q → r ≡ q
 
 abbrev pub OneTable : Type 0
 OneTable =

@@ -20,7 +20,7 @@ use Rattle.subjobs.specs.Sets.{Subjobs, size, release}
 use Rattle.subjobs.specs.Faults.{Fit}
 use Rattle.ticks.specs.Core.{pick}
 use Rattle.ticks.specs.Runs.{due, load, core_at, run}
-use Rattle.edf.specs.declared.Answer.{Answer}
+use Rattle.edf.specs.Answers.{Answer}
 use Rattle.edf.specs.declared.Totals.{Totals}
 use Rattle.edf.specs.Answers.{further_lists, answer, finishes, totals, values, simulated, Runs}
 use Rattle.promises.specs.Words.{accepted, refusal, Faults, served, finish}

@@ -4,7 +4,6 @@
 --   line_at s ds fs i       == the line of place i, fs the finishes
 --   joined f xs            == f of each place of xs, one behind the other
 --   accepted s ds          == the whole output for an accepted set
---   verdict_of a            == whether the assignment's answer a is acceptance, and why not
 --   tabled s               == the whole output for a set
 --   answer text            == the whole output for a text
 --   Tables text out r out' == what `table` is held to
@@ -13,7 +12,7 @@ use Rattle.std.specs.Prelude.{ℕ, ◌≤◌, List, [], ◌∷◌, ◌++◌, ◌
 use Rattle.lists.specs.Places.{places}
 use Rattle.subjobs.specs.Sets.{Subjobs, size, job, subtask}
 use Rattle.subjobs.specs.Terms.{terms, slack}
-use Rattle.subjobs.specs.Judging.{Judgement, judged, if_passed}
+use Rattle.subjobs.specs.Judging.{judged, if_passed}
 use Rattle.olda.specs.Answers.{Answer}
 use Rattle.olda.specs.Answers as olda
 use Rattle.ticks.specs.Runs as ticks
@@ -36,10 +35,6 @@ joined f (i ∷ is) = f i ++ joined f is
 -- Accepted: a header and one line per sub-job in input order, the finishes those when every ask equals execution.
 unfoldable pub accepted : Subjobs → List ℕ → List ℕ
 accepted s ds = out_header ++ joined (line_at s ds (ticks.run s ds s.executions).finishes) (places (size s))
-
--- whether the assignment accepts, and why not; `promises` says it by this name
-abbrev pub verdict_of : Answer → Judgement
-verdict_of a = judged a
 
 -- The deadlines are the assignment's own, and so are the refusals 3, 4 and 5.
 unfoldable pub tabled : Subjobs → List ℕ

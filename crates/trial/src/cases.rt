@@ -2,8 +2,9 @@
 // kind's ends the text.
 use crate::printing::{Listed, Refusal};
 use crate::reading::{Lists, Reader};
+use graph::Graph;
 use std::io;
-use subjobs::Judgement;
+use subjobs::Reason;
 
 // The longest list of a set's or a graph's places that is asked. A longer list ends the text.
 const PLACES: usize = 160;
@@ -30,6 +31,7 @@ enum Kind {
 
 impl Kind {
     // The kind with this number, if there is one.
+    // Kept so: `TryFrom` would want a type for an error that says no more than `None`.
     fn numbered(number: u64) -> Option<Kind> {
         match number {
             1 => Some(Kind::Assign),
@@ -70,20 +72,12 @@ fn one(rt: &HostRuntime, kind: Kind, reader: &mut Reader<'_>) -> io::Result<()> 
 
 // The assignment: its answer, and the results after the call. The further list is the results before.
 fn assign(rt: &HostRuntime, reader: &mut Reader<'_>) -> io::Result<()> {
-    let set = Lists::read(reader, PLACES)?;
+    let lists = Lists::read(reader, PLACES)?;
     let mut results = reader.list(PLACES)?;
-    match olda::assign(
-        &set.jobs,
-        &set.subtasks,
-        &set.releases,
-        &set.executions,
-        &set.deadlines,
-        &set.criticals,
-        &mut results,
-    ) {
-        olda::Answer::Placed(report) => print!(rt; "placed {} {}", report.slack, report.place)?,
-        olda::Answer::Nothing => print!(rt; "nothing")?,
-        olda::Answer::Refused(reason) => rt.print(Refusal::from(reason))?,
+    match olda::assign(&lists.set(), &mut results) {
+        Ok(Some(report)) => print!(rt; "placed {} {}", report.slack, report.place)?,
+        Ok(None) => print!(rt; "nothing")?,
+        Err(reason) => rt.print(Refusal(reason))?,
     }
     println!(rt; " {}", Listed(&results))
 }
@@ -91,7 +85,7 @@ fn assign(rt: &HostRuntime, reader: &mut Reader<'_>) -> io::Result<()> {
 // The simulator: its answer, and the totals and finishes after the call. A run's further lists are local deadlines, asks
 // and the finishes before; then come the totals before.
 fn simulate(rt: &HostRuntime, reader: &mut Reader<'_>) -> io::Result<()> {
-    let set = Lists::read(reader, PLACES)?;
+    let lists = Lists::read(reader, PLACES)?;
     let local = reader.list(PLACES)?;
     let asks = reader.list(PLACES)?;
     let mut finishes = reader.list(PLACES)?;
@@ -99,21 +93,10 @@ fn simulate(rt: &HostRuntime, reader: &mut Reader<'_>) -> io::Result<()> {
         busy: reader.number(),
         idle: reader.number(),
     };
-    let run = edf::simulate(
-        &set.jobs,
-        &set.subtasks,
-        &set.releases,
-        &set.executions,
-        &set.deadlines,
-        &set.criticals,
-        &local,
-        &asks,
-        &mut finishes,
-        totals,
-    );
+    let run = edf::simulate(&lists.set(), &local, &asks, &mut finishes, totals);
     match run.answer {
-        edf::Answer::Ran(report) => print!(rt; "ran {}", report.end)?,
-        edf::Answer::Refused(reason) => rt.print(Refusal::from(reason))?,
+        Ok(report) => print!(rt; "ran {}", report.end)?,
+        Err(reason) => rt.print(Refusal(reason))?,
     }
     println!(rt;
         " : {} {} {}",
@@ -125,20 +108,10 @@ fn simulate(rt: &HostRuntime, reader: &mut Reader<'_>) -> io::Result<()> {
 
 // The checker: its answer alone. The further list is the proposed deadlines.
 fn check(rt: &HostRuntime, reader: &mut Reader<'_>) -> io::Result<()> {
-    let set = Lists::read(reader, PLACES)?;
+    let lists = Lists::read(reader, PLACES)?;
     let proposed = reader.list(PLACES)?;
-    match checker::check(
-        &set.jobs,
-        &set.subtasks,
-        &set.releases,
-        &set.executions,
-        &set.deadlines,
-        &set.criticals,
-        &proposed,
-    ) {
-        checker::Answer::Accepted => println!(rt; "accepted"),
-        checker::Answer::Refused(reason) => rt.println(Refusal::from(reason)),
-    }
+    passed(rt, checker::check(&lists.set(), &proposed), "accepted")?;
+    println!(rt)
 }
 
 // The table: the count of the bytes of the output, and the output.
@@ -162,41 +135,41 @@ fn critical(rt: &HostRuntime, reader: &mut Reader<'_>) -> io::Result<()> {
     let afters = reader.list(ARCS)?;
     let hops = reader.list(ARCS)?;
     let mut results = reader.list(PLACES)?;
-    let judgement = graph::critical(&executions, &befores, &afters, &hops, &mut results);
-    judged(rt, judgement, "found")?;
+    let graph = Graph {
+        executions: &executions,
+        befores: &befores,
+        afters: &afters,
+        hops: &hops,
+    };
+    passed(rt, graph::critical(&graph, &mut results), "found")?;
     println!(rt; " {}", Listed(&results))
 }
 
 // The room: its answer, and deadlines, numbers and places after the call. Beside the six lists the lengths of the sets,
 // and deadlines, numbers and places before it are read.
 fn room(rt: &HostRuntime, reader: &mut Reader<'_>) -> io::Result<()> {
-    let sets = Lists::read(reader, ROOM_PLACES)?;
+    let lists = Lists::read(reader, ROOM_PLACES)?;
     let lengths = reader.list(ROOM_SETS)?;
     let mut results = reader.list(ROOM_PLACES)?;
     let mut numbers = reader.list(ROOM_SETS)?;
     let mut places = reader.list(ROOM_SETS)?;
-    let judgement = room::assign(
-        &sets.jobs,
-        &sets.subtasks,
-        &sets.releases,
-        &sets.executions,
-        &sets.deadlines,
-        &sets.criticals,
+    let answer = room::assign(
+        &lists.set(),
         &lengths,
         &mut results,
         &mut numbers,
         &mut places,
     );
-    judged(rt, judgement, "assigned")?;
+    passed(rt, answer, "assigned")?;
     println!(rt; " {}", Listed(&results))?;
     println!(rt; " {}", Listed(&numbers))?;
     println!(rt; " {}", Listed(&places))
 }
 
-// What is said of a graph or a room: that it passed, or why it is refused.
-fn judged(rt: &HostRuntime, judgement: Judgement, passed: &str) -> io::Result<()> {
-    match judgement {
-        Judgement::Passed => rt.print(passed),
-        Judgement::Refused(reason) => rt.print(Refusal::from(reason)),
+// What is said of a call that answers with nothing more: the word for one that passed, or why it is refused.
+fn passed(rt: &HostRuntime, answer: Result<(), Reason>, word: &str) -> io::Result<()> {
+    match answer {
+        Ok(()) => rt.print(word),
+        Err(reason) => rt.print(Refusal(reason)),
     }
 }

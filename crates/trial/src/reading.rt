@@ -4,6 +4,7 @@ ghost use Rattle.std.specs.Prelude.{◌≤◌, IfOk, vec_len};
 
 use std::alloc::{AllocError, Global};
 use std::slice::Iter;
+use subjobs::Set;
 
 // A text that is read from front to back, and the allocator of its lists.
 #[derive(Drop)]
@@ -85,5 +86,17 @@ impl Lists {
             deadlines: reader.list(limit)?,
             criticals: reader.list(limit)?,
         })
+    }
+
+    // The set, lent.
+    pub(crate) fn set(&self) -> Set<'_> {
+        Set {
+            jobs: &self.jobs,
+            subtasks: &self.subtasks,
+            releases: &self.releases,
+            executions: &self.executions,
+            deadlines: &self.deadlines,
+            criticals: &self.criticals,
+        }
     }
 }
