@@ -53,7 +53,7 @@ pub(crate) fn place_all(
     for left in (1..=order.len()).rev() {
         let start = base_tail(&ends[..left]);
         let completion = ends[start];
-        let at = start + base_job(&order[start..left], bounds, set.jobs, set.subtasks);
+        let at = start + base_job(&order[start..left], bounds, set);
         let place = order[at] as usize;
         if bounds[place] < completion + RAISE {
             return Err(Reason::Late {

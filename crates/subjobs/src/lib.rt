@@ -51,13 +51,8 @@ impl<'a> Set<'a> {
         if 128 < self.jobs.len() {
             return Err(Reason::TooMany);
         }
-        judging::ranges(
-            self.releases,
-            self.executions,
-            self.deadlines,
-            self.criticals,
-        )?;
-        judging::pairs(self.jobs, self.subtasks)
+        judging::ranges(self)?;
+        judging::pairs(self)
     }
 
     // The same set, if it passes refusals 1 to 4. `others` says whether the further lists of the call, results included,

@@ -2,7 +2,6 @@
 use borrow.Author.Tests.{le-leb, lt-leb}
 use Rattle.std.proofs.Common.{sym, ◌∙◌}
 use Rattle.subjobs.specs.Judging.{judgement}
-use Rattle.subjobs.proofs.Fit.{one_length_lem}
 use Rattle.subjobs.proofs.Leaving.{leaves}
 use Rattle.subjobs.proofs.Set.refusals.Goals as goal
 
@@ -19,10 +18,10 @@ unfolding judgement
 returns-in_err-ranges c =
     let e = sym c.one_length.ensures ∙ c.if-not-one_length.false in
     leaves _ c.in_err-ranges.field-0.0 c.from_residual.ensures.1
-    ∙ rw (e, le-leb _ _ c.if-self-gt128.false, ← (one_length_lem _ _ e).releases, ← c.ranges-2.ensures, c.in_err-ranges.was)
+    ∙ rw (e, le-leb _ _ c.if-self-gt128.false, ← c.ranges-2.ensures, c.in_err-ranges.was)
 
 pub returns : goal.returns
 unfolding judgement
 returns c =
     let e = sym c.one_length.ensures ∙ c.if-not-one_length.false in
-    rw (e, le-leb _ _ c.if-self-gt128.false, ← c.pairs.ensures, ← (one_length_lem _ _ e).releases, ← c.ranges-2.ensures, c.in_ok-ranges.was)
+    rw (e, le-leb _ _ c.if-self-gt128.false, ← c.pairs.ensures, ← c.ranges-2.ensures, c.in_ok-ranges.was)

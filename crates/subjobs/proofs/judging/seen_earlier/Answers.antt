@@ -1,34 +1,35 @@
 -- `judging::seen_earlier` meets its contract: at each turn what is left to look at decides the whole search.
 use borrow.Author.Tests.{eq-eqb, ne_eqb}
-use Rattle.std.proofs.Common.{◌≡◌, ◌-◌, ℕ, Bool, false, List, get_or, sym, ◌∙◌}
+use Rattle.std.proofs.Common.{◌≡◌, ◌-◌, ℕ, Bool, false, sym, ◌∙◌}
 use Rattle.std.specs.Prelude.{◌&&◌, eqb}
 use mathlib.Core.Bool.{and-false}
+use Rattle.subjobs.specs.Sets.{Subjobs, subjobs_of, job, subtask}
 use Rattle.lists.proofs.Count.{some_last, some_but_last, some_none}
 use Rattle.subjobs.proofs.judging.seen_earlier.Goals as goal
-use Rattle.subjobs.proofs.judging.seen_earlier.Goals.{else-subtasks-j-via-then-subtasks-j+else-jobs-j, else-subtasks-j-via-else-subtasks-j}
+use Rattle.subjobs.proofs.judging.seen_earlier.Goals.{else-set-j-via-then-set-j+else-set-j-2, else-set-j-via-else-set-j}
 
 -- The pair at a place is the one looked for.
-abbrev Same : List ℕ → List ℕ → ℕ → ℕ → Bool
-Same jobs subtasks place i = eqb (get_or jobs i 0) (get_or jobs place 0) && eqb (get_or subtasks i 0) (get_or subtasks place 0)
+abbrev Same : Subjobs → ℕ → ℕ → Bool
+Same s place i = eqb (job s i) (job s place) && eqb (subtask s i) (subtask s place)
 
-pub returns-then-jobs-j : goal.returns-then-jobs-j
-returns-then-jobs-j c =
+pub returns-then-set-j-2 : goal.returns-then-set-j-2
+returns-then-set-j-2 c =
     let L = c.loop-j in
     let a = c.args in
     sym
     (sym L.invariant
-    ∙ some_last (Same a.jobs.now a.subtasks.now a.place) L.j c.loop-j-test.true (rw (eq-eqb _ _ c.if-jobs-j.true, eq-eqb _ _ c.if-subtasks-j.true)))
+    ∙ some_last (Same (subjobs_of a.set.now) a.place) L.j c.loop-j-test.true (rw (eq-eqb _ _ c.if-set-j-2.true, eq-eqb _ _ c.if-set-j.true)))
 
 pub loop-j-preserved : goal.loop-j-preserved
 loop-j-preserved c =
     let L = c.loop-j in
     let a = c.args in
-    let P = Same a.jobs.now a.subtasks.now a.place in
+    let P = Same (subjobs_of a.set.now) a.place in
     let no : P (L.j - 1) ≡ false =
-    elim c.else-subtasks-j.branch [
-      | else-subtasks-j-via-then-subtasks-j+else-jobs-j w ↦ rw (ne_eqb _ _ w.if-jobs-j.false)
-      | else-subtasks-j-via-else-subtasks-j w ↦
-          rw (ne_eqb _ _ w.if-subtasks-j.false) (and-false (eqb (get_or a.jobs.now (L.j - 1) 0) (get_or a.jobs.now a.place 0)))
+    elim c.else-set-j.branch [
+      | else-set-j-via-then-set-j+else-set-j-2 w ↦ rw (ne_eqb _ _ w.if-set-j-2.false)
+      | else-set-j-via-else-set-j w ↦
+          rw (ne_eqb _ _ w.if-set-j.false) (and-false (eqb (job (subjobs_of a.set.now) (L.j - 1)) (job (subjobs_of a.set.now) a.place)))
     ]
     in
     sym (some_but_last P L.j c.loop-j-test.true no) ∙ L.invariant
@@ -37,4 +38,4 @@ pub returns : goal.returns
 returns c =
     let L = c.loop-j in
     let a = c.args in
-    sym (sym L.invariant ∙ some_none (Same a.jobs.now a.subtasks.now a.place) L.j c.loop-j-test.false)
+    sym (sym L.invariant ∙ some_none (Same (subjobs_of a.set.now) a.place) L.j c.loop-j-test.false)
