@@ -32,6 +32,7 @@ pub(crate) fn column<'a, const WIDTH: usize>(
 }
 
 // Room for the six fields of N records.
+// Kept so: arrays of which a part is used, since the library has no heap.
 #[derive(Drop)]
 pub(crate) struct Fields<const N: usize> {
     jobs: [u32; N],

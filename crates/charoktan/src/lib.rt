@@ -131,6 +131,7 @@ fn fitting_graph(executions: &[u8], arcs: &[u8], results: usize) -> bool
 }
 
 // Critical times of whole executions and arcs, with room for N sub-jobs and M arcs.
+// Kept so: arrays of which a part is used, since the library has no heap.
 fn critical_within<const N: usize, const M: usize>(
     executions: &[u8],
     arcs: &[u8],

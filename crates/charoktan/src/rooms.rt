@@ -1,5 +1,5 @@
 // A room at the door: its sets one after another, each by `charoktan_assign` on its own stretch of the bytes.
-// Kept so: (d) `room` walks so too, on lists; one walk for both takes a crate below them and closures, and is longer.
+// Kept so: `room` walks so too, on lists; one walk for both takes a crate below them and closures, and is longer.
 ghost use Rattle.std.specs.Prelude.{◌+◌, ◌*◌, ◌/◌, ◌<◌, ◌≡◌, eqb, length, get_or};
 ghost use Rattle.lists.specs.Places.{total};
 ghost use Rattle.stretches.specs.Stretches.{replaced};
@@ -73,6 +73,7 @@ fn assign_each(
 }
 
 // The sets of a room, or why the whole is refused.
+// Kept so: the five slices are those of the C interface.
 pub(crate) fn assign(
     records: &[u8],
     lengths: &[u8],

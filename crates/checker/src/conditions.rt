@@ -54,6 +54,7 @@ fn late(finishes: &[u32], proposed: &[u32]) -> Result<(), Reason>
 }
 
 // The smallest place that the core finishes late when every ask equals execution.
+// Kept so: an array of which a part is used, since the library has no heap.
 pub(crate) fn seven(fit: &FitSet<'_>, proposed: &[u32]) -> Result<(), Reason>
     requires { length proposed.now ≡ size (subjobs_of fit.now.set) }
     ensures { result ≡ seven (subjobs_of fit.now.set) proposed.now }

@@ -5,8 +5,8 @@ use std::io::{self, Read};
 
 // Reads standard input to its end or until the room is full, and answers how many bytes came; or the error, if a read
 // failed. What came before a read that failed may be the beginning of a table only.
-// Kept so: no method of std counts what came into a room (d); `read_to_end` reads again where a read was interrupted,
-// and `serve` then ends with its line on standard error, which may not change (a).
+// Kept so: no method of std counts what came into a room; `read_to_end` reads again where a read was interrupted,
+// and `serve` then ends with its line on standard error, which may not change.
 fn fill(rt: &HostRuntime, room: &mut [u8]) -> io::Result<usize>
     ensures { IfOk result (λ n. n ≤ length room.new) }
 {
@@ -24,6 +24,7 @@ fn fill(rt: &HostRuntime, room: &mut [u8]) -> io::Result<usize>
 
 // Reads standard input to its end or to one byte over 16,384, and prints the answer to that text. If it cannot be read
 // there is no answer, and a line on standard error says so.
+// Kept so: `table::table` writes to an array of this length, and `fill` to a room.
 pub(crate) fn serve(rt: &HostRuntime) -> io::Result<()> {
     let mut text = [0u8; 16385];
     match fill(rt, &mut text) {

@@ -10,6 +10,7 @@ use subjobs::{FitSet, Reason};
 
 // The steps, with room made here for up to N sub-jobs: the raised bounds, the local deadlines, the places in release
 // order and the completions of their tails. The result list is written when all have their deadlines, and not before.
+// Kept so: arrays of which `count` places are used, since the library has no heap.
 fn place_in<const N: usize>(fit: &FitSet<'_>, out: &mut [u32]) -> Result<(), Reason>
     requires out { length out.old ≡ size (subjobs_of fit.now.set) }
     requires room { (size (subjobs_of fit.now.set) ≤ N) × (N ≤ 128) }

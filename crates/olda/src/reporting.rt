@@ -7,7 +7,7 @@ use crate::Report;
 use crate::bounding::{difference, withheld};
 
 // The local deadlines of an accepted set, beside the deadlines and critical times of its sub-jobs.
-#[derive(Drop)]
+#[derive(Clone, Copy)]
 pub(crate) struct Accepted<'a> {
     pub(crate) deadlines: &'a [u32],
     pub(crate) criticals: &'a [u32],

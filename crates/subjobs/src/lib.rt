@@ -10,6 +10,7 @@ ghost use Rattle.subjobs.specs.Faults.{Fit};
 mod judging;
 
 // A set of sub-jobs: six lent lists of 32-bit numbers, one place per sub-job.
+// Kept so: the scope asks for a lent list per field, not for one list of sub-jobs.
 #[derive(Clone, Copy)]
 pub struct Set<'a> {
     pub jobs: &'a [u32],
@@ -115,6 +116,7 @@ pub enum Reason {
 }
 
 // What the table of refusals says of a reason: number, place and details, 0 for a detail it does not carry.
+// Kept so: `values`, by which the promises speak, gives all five numbers of every reason.
 #[derive(Clone, Copy, Debug, PartialEq, Eq)]
 pub struct Told {
     pub number: u32,

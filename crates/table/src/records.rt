@@ -7,6 +7,7 @@ use std::marker::Model;
 use subjobs::Set;
 
 // Room for 128 records, of which `count` are here.
+// Kept so: arrays and a count, since the library has no heap; the invariant ties them.
 #[derive(Drop)]
 pub(crate) struct Records {
     jobs: [u32; 128],

@@ -34,6 +34,7 @@ fn put_set(set: &Set<'_>, local: &mut [u32], finishes: &mut [u32], out: &mut [u8
 }
 
 // The output for the records of a table.
+// Kept so: arrays of which a part is used, since the library has no heap.
 pub(crate) fn put_records(records: &Records, out: &mut [u8]) -> usize
     ensures { Wrote out.old 0 (tabled records.now) out.new result }
 {

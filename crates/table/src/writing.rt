@@ -2,7 +2,7 @@
 // answers the place behind what it wrote.
 ghost use Rattle.std.specs.Prelude.{ℕ, ◌<◌, ◌≤◌, ◌≡◌};
 ghost use Rattle.lists.specs.Places.{places};
-ghost use Rattle.subjobs.specs.Reasons.{place_of};
+ghost use Rattle.subjobs.specs.Reasons.{number_of, place_of};
 ghost use Rattle.subjobs.specs.Sets.{subjobs_of, size};
 ghost use Rattle.text.specs.Writing.{Wrote};
 ghost use Rattle.table.specs.Writing.{refusal};
@@ -41,13 +41,14 @@ pub(crate) fn put_lines(
     end
 }
 
-// The line that a refusal with this number and place names.
-fn printed_line(number: u32, place: usize) -> usize
-    requires { place ≤ 129 }
-    ensures { PrintedLine number place result }
+// The line that a refusal names.
+fn printed_line(reason: Reason) -> usize
+    requires { place_of reason ≤ 129 }
+    ensures { PrintedLine (number_of reason) (place_of reason) result }
 {
-    match number {
-        3..=5 => place + 2,
+    let place = Told::from(reason).place;
+    match reason {
+        Reason::Range { .. } | Reason::Pair { .. } | Reason::Late { .. } => place + 2,
         _ => place,
     }
 }
@@ -57,8 +58,7 @@ pub(crate) fn put_refusal(out: &mut [u8], reason: Reason) -> usize
     requires { place_of reason ≤ 129 }
     ensures { Wrote out.old 0 (refusal reason) out.new result }
 {
-    let told = Told::from(reason);
-    let line = [told.number, printed_line(told.number, told.place) as u32];
+    let line = [Told::from(reason).number, printed_line(reason) as u32];
     let at = text::writing::put_text(out, 0, b"refused,");
     text::writing::put_record(out, at, &line)
 }

@@ -1,5 +1,5 @@
 // Reading: the numbers of a record, from a place of a text on.
-// Kept so: text and place are two parameters (d), since `record_at` and the definitions go by the place of a byte.
+// Kept so: text and place are two parameters, since `record_at` and the definitions go by the place of a byte.
 ghost use Rattle.std.specs.Prelude.{◌<◌, ◌^◌, ◌≡◌, SomeIff, drop, length};
 ghost use Rattle.std.specs.List.{prefix_len};
 ghost use Rattle.std.specs.Char.{is_ascii_digit};

@@ -1,6 +1,6 @@
 // Writing: text put into a list of bytes from a place on, as much of it as there is room for. Each function answers the
 // place behind what it wrote.
-// Kept so: list and place are two parameters (d); a struct that holds the lent list needs one more clause per function,
+// Kept so: list and place are two parameters; a struct that holds the lent list needs one more clause per function,
 // that it still is the caller's.
 ghost use Rattle.std.specs.Prelude.{[], ◌∷◌};
 ghost use Rattle.text.specs.Writing.{figures, cell_text, line_text, Wrote};
@@ -27,7 +27,7 @@ pub fn put_text(out: &mut [u8], at: usize, word: &[u8]) -> usize
 }
 
 // A number of at most `places` digits.
-// Kept so: std prints a number into a formatter, and one that writes to this list is longer than these two cases (d).
+// Kept so: std prints a number into a formatter, and one that writes to this list is longer than these two cases.
 fn put_figures(out: &mut [u8], at: usize, x: u32, places: usize) -> usize
     ensures { Wrote out.old at (figures places x) out.new result }
 {

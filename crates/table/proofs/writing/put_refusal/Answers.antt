@@ -4,4 +4,5 @@ use Rattle.table.proofs.Printing.{refusal_is}
 use Rattle.table.proofs.writing.put_refusal.Goals as goal
 
 pub returns : goal.returns
-returns c = rw (refusal_is _, ← c.from-told.ensures, ← c.printed_line.ensures.is) (then c.put_text-at.ensures c.put_record.ensures)
+returns c =
+    rw (refusal_is _) (then c.put_text-at.ensures (rw (c.from.ensures, c.printed_line.ensures.is) at c.put_record.ensures))
