@@ -9,7 +9,7 @@ use crate::lent::{Graph, SoundGraph};
 use crate::rounds::raise;
 
 // The places that wait, in the order in which they came. Those before `head` are taken.
-// Kept so: (a) the library's rules want fixed memory and no heap, so the queue is an array and two indices.
+// Kept so: the library's rules want fixed memory and no heap, so the queue is an array and two indices.
 #[derive(Drop)]
 struct Queue {
     places: [u32; 128],
@@ -44,8 +44,8 @@ impl Queue {
 
 // A graph with the arcs that lead to a place linked: `first` has the index of one plus 1, `next` that of the one behind it,
 // which stands before it in the graph; 0 where there is none.
-// Kept so: (a) the library's rules want fixed memory and no heap, so links are indices in an array.
-// Kept so: (b) `Option<u16>` in place of the plus 1 takes 3.4 percent more instructions a call where 128 places have 1,024
+// Kept so: the library's rules want fixed memory and no heap, so links are indices in an array.
+// Kept so: `Option<u16>` in place of the plus 1 takes 3.4 percent more instructions a call where 128 places have 1,024
 // arcs, shuffled (126,443 to 130,773); `Option<u32>` 5.9 percent, and 24,952 bytes of stack, of which 20,480 are promised.
 #[derive(Drop)]
 struct Links<'a> {
