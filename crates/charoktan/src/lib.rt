@@ -50,7 +50,9 @@ fn assign_set(set: &Set<'_>, local: &mut [u32], deadlines: &mut [u8]) -> Result<
     Ok(())
 }
 
-// The assignment on whole records, with room for N of them.
+// The assignment on whole records, with room for N of them. Not inlined, so that a room's loop holds what chooses between
+// the two sizes: 3 percent of a room with 4 sub-jobs per set.
+#[inline(never)]
 fn assign_within<const N: usize>(records: &[u8], deadlines: &mut [u8]) -> Result<(), Reason>
     requires { Within records.now deadlines.old N }
     ensures small { Small result }
