@@ -61,7 +61,7 @@ module _
     picks_none e = (picks _ refl).1 (chosen_none _ _ (sym e ∙ serves))
 
     counted : Counters (load_of w)
-    counted = counters (subjobs_of w.set) w.local.now w.asks.now w.fit.few
+    counted = counters (subjobs_of w.fit.set) w.local.now w.asks.now w.fit.fit.few
 
     -- The one to serve is owed what it has not got,
     pub owing : (p o : ℕ) → q ≡ Some p → o ≡ (load_of w).owed p → get_or v p 0 ≤ o
@@ -73,7 +73,7 @@ module _
         → Served w v f b t p m
     serves_on p o m h e l =
         let s = served_for (load_of w) v f b t R counted p (picks_some p h) in
-        let fits = horizon_fits (subjobs_of w.set) w.local.now w.asks.now w.fit.few (λ i h. ((w.fit.ranges i h).release, (w.fit.ranges i h).execution)) in
+        let fits = horizon_fits (subjobs_of w.fit.set) w.local.now w.asks.now w.fit.fit.few (λ i h. ((w.fit.fit.ranges i h).release, (w.fit.fit.ranges i h).execution)) in
         rw (l, e, ← next_is)
         (record {
           busy = omega (arith, s.1.soon, reached_busy (load_of w) _ _ _ _ s.1);

@@ -66,7 +66,7 @@ module _ (w : Work) (e : Core) (R : RanOut w e) where
   unfolding run_of finish
   run_is =
       let L = load_of w in
-      let K = counters (subjobs_of w.set) w.local.now w.asks.now w.fit.few in
+      let K = counters (subjobs_of w.fit.set) w.local.now w.asks.now w.fit.fit.few in
       rw (R.finish, R.busy, end_is L K, busy_is L K, idle_is L K)
 
   pub busy_first : e.busy ≤ end_in (load_of w) e.finish
@@ -75,7 +75,7 @@ module _ (w : Work) (e : Core) (R : RanOut w e) where
         arith,
         ap (λ (r : Run). r.end) run_is,
         ap (λ (r : Run). r.busy) run_is,
-        run_ticks (subjobs_of w.set) w.local.now w.asks.now,
+        run_ticks (subjobs_of w.fit.set) w.local.now w.asks.now,
       )
 
   -- The totals after it, with m for its end,

@@ -25,10 +25,10 @@ use Rattle.edf.specs.declared.work.Work.{Work}
 use Rattle.edf.specs.Answers.{added, above, if_ran}
 
 abbrev pub load_of : Work → Load
-load_of w = load (subjobs_of w.set) w.local.now w.asks.now
+load_of w = load (subjobs_of w.fit.set) w.local.now w.asks.now
 
 abbrev pub size_of : Work → ℕ
-size_of w = size (subjobs_of w.set)
+size_of w = size (subjobs_of w.fit.set)
 
 -- the place that `to_serve` tells by its number
 abbrev pub chosen : (n p : ℕ) → Option ℕ

@@ -12,7 +12,7 @@ impl Work<'_> {
         requires { place < size_of self.now }
         ensures { result ≡ active (load_of self.now) t served.now place }
     {
-        self.set.releases[place] <= t && served[place] < self.owed(place)
+        self.fit.set.releases[place] <= t && served[place] < self.owed(place)
     }
 
     // Whether the place i is served before the place j: smaller deadline, then smaller job, then smaller subtask.
@@ -20,8 +20,15 @@ impl Work<'_> {
         requires { (i < size_of self.now) × (j < size_of self.now) }
         ensures { result ≡ (load_of self.now).before i j }
     {
-        (self.local[i], self.set.jobs[i], self.set.subtasks[i])
-            < (self.local[j], self.set.jobs[j], self.set.subtasks[j])
+        (
+            self.local[i],
+            self.fit.set.jobs[i],
+            self.fit.set.subtasks[i],
+        ) < (
+            self.local[j],
+            self.fit.set.jobs[j],
+            self.fit.set.subtasks[j],
+        )
     }
 
     // The one of two places that is served first.
@@ -43,7 +50,7 @@ impl Work<'_> {
             ≡ chosen (size_of self.now) (to_serve (load_of self.now) (size_of self.now) t served.now) }
     {
         let mut best = None;
-        for place in 0..self.set.jobs.len() {
+        for place in 0..self.fit.set.jobs.len() {
             if self.active(served, t, place) {
                 best = match best {
                     Some(b) => Some(self.first(b, place)),
@@ -60,7 +67,8 @@ impl Work<'_> {
             ≡ released (next_release (load_of self.now).release (load_of self.now).on t) }
         ensures later { IfSome result (λ release. t < release) }
     {
-        self.set
+        self.fit
+            .set
             .releases
             .iter()
             .copied()

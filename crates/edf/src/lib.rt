@@ -29,6 +29,7 @@ pub struct Report {
 }
 
 // The answer, and what the record of totals holds afterwards.
+// Kept so: by the definition `Simulates` the totals come back on a refusal too, which a `Result` would leave out.
 #[derive(Clone, Copy, Debug, PartialEq, Eq)]
 pub struct Simulated {
     pub answer: Result<Report, Reason>,
@@ -47,6 +48,7 @@ pub fn simulate(
     ensures { Simulates (subjobs_of set.now) local.now asks.now finishes.old totals result finishes.new }
 {
     let n = set.jobs.len();
+    // `&`: one path for the check.
     let others = (local.len() == n) & (asks.len() == n) & (finishes.len() == n);
     match set.judge(others) {
         Err(reason) => Simulated {
@@ -54,11 +56,7 @@ pub fn simulate(
             totals,
         },
         Ok(fit) => {
-            let work = Work {
-                set: fit.set,
-                local,
-                asks,
-            };
+            let work = Work { fit, local, asks };
             let mut core = Core {
                 served: [0; 128],
                 finish: [0; 128],
@@ -71,7 +69,8 @@ pub fn simulate(
 }
 
 // The same with the record of totals lent: it holds what comes back, whether the run was accepted or refused.
-// Kept so: a rule of the project has the totals lent to a thin function above a simulator by value.
+// Kept so: the totals are lent to a thin function above a simulator by value ("Forms of the code", docs/RULES.md and
+// docs/PROMISES.md).
 pub fn run(
     set: &Set<'_>,
     local: &[u32],

@@ -8,6 +8,7 @@ use crate::{Report, Simulated, Totals};
 use subjobs::Reason;
 
 // The core: of each place the ticks served to it and the end of the last of them, and the busy ticks.
+// Kept so: arrays of which a part is used, since the library has no heap.
 #[derive(Drop)]
 pub(crate) struct Core {
     pub served: [u32; 128],
@@ -44,7 +45,7 @@ impl Work<'_> {
         ensures { result ≡ end_in (load_of self.now) finish.now }
     {
         let mut end: u32 = 0;
-        for place in 0..self.set.jobs.len() {
+        for place in 0..self.fit.set.jobs.len() {
             if 0 < self.owed(place) {
                 end = end.max(finish[place]);
             }
@@ -58,7 +59,7 @@ impl Work<'_> {
         ensures { result ≡ finish_in (load_of self.now) finish.now place }
     {
         if self.owed(place) == 0 {
-            self.set.releases[place]
+            self.fit.set.releases[place]
         } else {
             finish[place]
         }
@@ -82,6 +83,7 @@ impl Work<'_> {
     {
         let end = self.end(&core.finish);
         let idle = end - core.busy;
+        // `|`: one path for the check.
         if above(totals.busy, core.busy) | above(totals.idle, idle) {
             return Simulated {
                 answer: Err(Reason::Totals),

@@ -1,19 +1,17 @@
 // The work of a run: what the simulator reads of a set that is accepted.
-ghost use Rattle.std.specs.Prelude.{◌≡◌, length, true};
+ghost use Rattle.std.specs.Prelude.{◌≡◌, length};
 ghost use Rattle.subjobs.specs.Sets.{subjobs_of, size};
-ghost use Rattle.subjobs.specs.Faults.{Fit};
 
-use subjobs::Set;
+use subjobs::FitSet;
 
 // A set that passes refusals 1 to 4, with lists of its length: the deadlines that order the service, and the asks.
 #[derive(Clone, Copy)]
 pub(crate) struct Work<'a> {
-    pub set: Set<'a>,
+    pub fit: FitSet<'a>,
     pub local: &'a [u32],
     pub asks: &'a [u32],
-    ghost fit: { Fit (subjobs_of set) true },
-    ghost each_local: { length local.now ≡ size (subjobs_of set) },
-    ghost each_ask: { length asks.now ≡ size (subjobs_of set) },
+    ghost each_local: { length local.now ≡ size (subjobs_of fit.set) },
+    ghost each_ask: { length asks.now ≡ size (subjobs_of fit.set) },
 }
 
 impl Work<'_> {
@@ -25,6 +23,6 @@ impl Work<'_> {
         requires { place < size_of self.now }
         ensures { result ≡ (load_of self.now).owed place }
     {
-        self.asks[place].min(self.set.executions[place])
+        self.asks[place].min(self.fit.set.executions[place])
     }
 }

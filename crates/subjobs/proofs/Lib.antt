@@ -7,4 +7,3 @@ pub mod Differences
 pub mod Pairs
 pub mod Rearranging
 pub mod Bounds
-pub mod LaidOut

@@ -4,4 +4,3 @@ pub mod Reasons
 pub mod Judging
 pub mod Faults
 pub mod Conditions
-pub mod Layout

@@ -6,62 +6,69 @@ ghost use Rattle.subjobs.specs.Faults.{OneLength};
 
 use crate::{Field, Reason, Set};
 
-// The first field of one sub-job that is out of range, in the order of the fields.
-fn range_at(set: &Set<'_>, place: usize) -> Result<(), Reason>
-    requires lists { OneLength (subjobs_of set.now) true }
-    requires inside { place < size (subjobs_of set.now) }
-    ensures { let s = subjobs_of set.now in
-        result ≡ range_at place (release s place) (execution s place) (deadline s place) (critical s place) }
-{
-    let field = if 1_000_000_000 < set.releases[place] {
-        Field::Release
-    } else if !(1..=1_000_000).contains(&set.executions[place]) {
-        Field::Execution
-    } else if 2_000_000_000 < set.deadlines[place] {
-        Field::Deadline
-    } else if 1_000_000_000 < set.criticals[place] {
-        Field::Critical
-    } else {
-        return Ok(());
-    };
-    Err(Reason::Range { place, field })
+// A set whose lists are of one length.
+#[derive(Clone, Copy)]
+pub(crate) struct OneLengthSet<'a> {
+    pub(crate) set: Set<'a>,
+    ghost one_length: { OneLength (subjobs_of set) true },
 }
 
-// The smallest place with a field out of range.
-pub(crate) fn ranges(set: &Set<'_>) -> Result<(), Reason>
-    requires { OneLength (subjobs_of set.now) true }
-    ensures { let s = subjobs_of set.now in
-        result ≡ ranges (release s) (execution s) (deadline s) (critical s) (size s) }
-{
-    for place in 0..set.jobs.len() {
-        range_at(set, place)?;
+impl OneLengthSet<'_> {
+    // The first field of one sub-job that is out of range, in the order of the fields.
+    fn range_at(&self, place: usize) -> Result<(), Reason>
+        requires { place < size (subjobs_of self.now.set) }
+        ensures { let s = subjobs_of self.now.set in
+            result ≡ range_at place (release s place) (execution s place) (deadline s place) (critical s place) }
+    {
+        let field = if 1_000_000_000 < self.set.releases[place] {
+            Field::Release
+        } else if !(1..=1_000_000).contains(&self.set.executions[place]) {
+            Field::Execution
+        } else if 2_000_000_000 < self.set.deadlines[place] {
+            Field::Deadline
+        } else if 1_000_000_000 < self.set.criticals[place] {
+            Field::Critical
+        } else {
+            return Ok(());
+        };
+        Err(Reason::Range { place, field })
     }
-    Ok(())
-}
 
-// Whether the pair at a place stands at an earlier place too.
-fn seen_earlier(set: &Set<'_>, place: usize) -> bool
-    requires lists { OneLength (subjobs_of set.now) true }
-    requires inside { place < size (subjobs_of set.now) }
-    ensures { let s = subjobs_of set.now in result ≡ seen_earlier (job s) (subtask s) place }
-{
-    for j in (0..place).rev() {
-        if set.subtasks[j] == set.subtasks[place] && set.jobs[j] == set.jobs[place] {
-            return true;
+    // The smallest place with a field out of range.
+    pub(crate) fn ranges(&self) -> Result<(), Reason>
+        ensures { let s = subjobs_of self.now.set in
+            result ≡ ranges (release s) (execution s) (deadline s) (critical s) (size s) }
+    {
+        for place in 0..self.set.jobs.len() {
+            self.range_at(place)?;
         }
+        Ok(())
     }
-    false
-}
 
-// The smallest place whose pair stands at an earlier place. Before place 0 there is none.
-pub(crate) fn pairs(set: &Set<'_>) -> Result<(), Reason>
-    requires { OneLength (subjobs_of set.now) true }
-    ensures { let s = subjobs_of set.now in result ≡ pairs (job s) (subtask s) (size s) }
-{
-    for place in 1..set.jobs.len() {
-        if seen_earlier(set, place) {
-            return Err(Reason::Pair { place });
+    // Whether the pair at a place stands at an earlier place too.
+    fn seen_earlier(&self, place: usize) -> bool
+        requires { place < size (subjobs_of self.now.set) }
+        ensures { let s = subjobs_of self.now.set in result ≡ seen_earlier (job s) (subtask s) place }
+    {
+        for j in (0..place).rev() {
+            if self.set.subtasks[j] == self.set.subtasks[place]
+                && self.set.jobs[j] == self.set.jobs[place]
+            {
+                return true;
+            }
         }
+        false
     }
-    Ok(())
+
+    // The smallest place whose pair stands at an earlier place. Before place 0 there is none.
+    pub(crate) fn pairs(&self) -> Result<(), Reason>
+        ensures { let s = subjobs_of self.now.set in result ≡ pairs (job s) (subtask s) (size s) }
+    {
+        for place in 1..self.set.jobs.len() {
+            if self.seen_earlier(place) {
+                return Err(Reason::Pair { place });
+            }
+        }
+        Ok(())
+    }
 }

@@ -9,6 +9,8 @@ ghost use Rattle.subjobs.specs.Faults.{Fit};
 
 mod judging;
 
+use judging::OneLengthSet;
+
 // A set of sub-jobs: six lent lists of 32-bit numbers, one place per sub-job.
 // Kept so: the scope asks for a lent list per field, not for one list of sub-jobs.
 #[derive(Clone, Copy)]
@@ -34,12 +36,12 @@ impl<'a> Set<'a> {
         ensures { result ≡ one_length (subjobs_of self.now) others }
     {
         let n = self.jobs.len();
-        (self.subtasks.len() == n)
-            & (self.releases.len() == n)
-            & (self.executions.len() == n)
-            & (self.deadlines.len() == n)
-            & (self.criticals.len() == n)
-            & others
+        self.subtasks.len() == n
+            && self.releases.len() == n
+            && self.executions.len() == n
+            && self.deadlines.len() == n
+            && self.criticals.len() == n
+            && others
     }
 
     // Refusals 1 to 4, in the order of the numbers.
@@ -52,8 +54,9 @@ impl<'a> Set<'a> {
         if 128 < self.jobs.len() {
             return Err(Reason::TooMany);
         }
-        judging::ranges(self)?;
-        judging::pairs(self)
+        let lists = OneLengthSet { set: *self };
+        lists.ranges()?;
+        lists.pairs()
     }
 
     // The same set, if it passes refusals 1 to 4. `others` says whether the further lists of the call, results included,
@@ -68,7 +71,7 @@ impl<'a> Set<'a> {
     }
 }
 
-// A field with a range of its own. The order in which those of a sub-job are looked at is that of `judging::range_at`; a
+// A field with a range of its own. The order in which those of a sub-job are looked at is that of `range_at` (judging.rt); a
 // hop delay is an arc's.
 #[derive(Clone, Copy, Debug, PartialEq, Eq)]
 pub enum Field {
@@ -126,16 +129,18 @@ pub struct Told {
     pub bound: i64,
 }
 
-// A reason that carries no detail but a place.
-fn at(number: u32, place: usize) -> Told
-    ensures { result ≡ at number place }
-{
-    Told {
-        number,
-        place,
-        field: 0,
-        completion: 0,
-        bound: 0,
+impl Told {
+    // A reason that carries no detail but a place.
+    fn at(number: u32, place: usize) -> Told
+        ensures { result ≡ at number place }
+    {
+        Told {
+            number,
+            place,
+            field: 0,
+            completion: 0,
+            bound: 0,
+        }
     }
 }
 
@@ -160,13 +165,13 @@ impl From<Reason> for Told {
 
     fn from(reason: Reason) -> Told {
         match reason {
-            Reason::Lengths => at(1, 0),
-            Reason::TooMany => at(2, 0),
+            Reason::Lengths => Told::at(1, 0),
+            Reason::TooMany => Told::at(2, 0),
             Reason::Range { place, field } => Told {
                 field: u32::from(field),
-                ..at(3, place)
+                ..Told::at(3, place)
             },
-            Reason::Pair { place } => at(4, place),
+            Reason::Pair { place } => Told::at(4, place),
             Reason::Late {
                 place,
                 completion,
@@ -174,17 +179,17 @@ impl From<Reason> for Told {
             } => Told {
                 completion,
                 bound,
-                ..at(5, place)
+                ..Told::at(5, place)
             },
-            Reason::Unmet { place } => at(6, place),
-            Reason::Missed { place } => at(7, place),
-            Reason::Totals => at(8, 0),
-            Reason::TextTooLong => at(10, 0),
-            Reason::Header => at(11, 1),
-            Reason::Malformed { line } => at(12, line),
-            Reason::Stray { arc } => at(20, arc),
-            Reason::Cycle => at(21, 0),
-            Reason::TooLarge => at(22, 0),
+            Reason::Unmet { place } => Told::at(6, place),
+            Reason::Missed { place } => Told::at(7, place),
+            Reason::Totals => Told::at(8, 0),
+            Reason::TextTooLong => Told::at(10, 0),
+            Reason::Header => Told::at(11, 1),
+            Reason::Malformed { line } => Told::at(12, line),
+            Reason::Stray { arc } => Told::at(20, arc),
+            Reason::Cycle => Told::at(21, 0),
+            Reason::TooLarge => Told::at(22, 0),
         }
     }
 }

@@ -7,7 +7,7 @@ use Rattle.edf.proofs.simulate.Goals as goal
 pub invariant_of-work : goal.invariant_of-work
 invariant_of-work c =
     let h = further (subjobs_of c.args.set.now) c.args.local.now c.args.asks.now _ (c.in-Ok.ensures.further refl) in
-    record { fit = c.in-Ok.fit.fit; each_local = rw c.in-Ok.ensures.same h.0; each_ask = rw c.in-Ok.ensures.same h.1 }
+    record { each_local = rw c.in-Ok.ensures.same h.0; each_ask = rw c.in-Ok.ensures.same h.1 }
 
 pub settle-requires-clause-room : goal.settle-requires-clause-room
 settle-requires-clause-room c =

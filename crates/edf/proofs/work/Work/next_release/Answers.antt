@@ -17,9 +17,9 @@ least_after c =
     ∙ min_from_yields_List c.filter.result _ c.min.ensures.ran
     (YieldsList-from_filter _ (ltb c.args.t)
     (YieldsList-at c.filter.ensures.source
-    (YieldsList-from_copied (YieldsList-at c.copied.ensures.source (YieldsList-from_slice w.set.releases.now (cc)))))
+    (YieldsList-from_copied (YieldsList-at c.copied.ensures.source (YieldsList-from_slice w.fit.set.releases.now (cc)))))
     c.filter.ensures.closure (λ x r q k. search (rules, tests)))
-    ∙ least_released w.set.releases.now _ w.fit.lengths.releases c.args.t
+    ∙ least_released w.fit.set.releases.now _ w.fit.fit.lengths.releases c.args.t
 
 pub returns : goal.returns
 returns c = record { next = least_after c; later = rw (least_after c) (released_later _ _ _) }

@@ -5,7 +5,7 @@ use Rattle.lists.specs.Search.{some_from}
 use Rattle.subjobs.specs.declared.Reason.TheVariants.{Pair}
 use Rattle.subjobs.specs.Judging.{unless}
 use Rattle.subjobs.proofs.Searching.{refusal_turn, refusal_end, refusal_second}
-use Rattle.subjobs.proofs.judging.pairs.Goals as goal
+use Rattle.subjobs.proofs.judging.OneLengthSet.pairs.Goals as goal
 
 unless-seen : (i : ℕ) (a : Bool) {b : Bool} → a ≡ b → unless (not a) (Pair i) ≡ unless (not b) (Pair i)
 unless-seen i a e = rw e

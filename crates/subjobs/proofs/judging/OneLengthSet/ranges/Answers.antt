@@ -2,7 +2,7 @@
 use Rattle.std.proofs.Common.{sym, ◌∙◌}
 use Rattle.subjobs.proofs.Leaving.{leaves}
 use Rattle.subjobs.proofs.Searching.{seek_start, seek_found, seek_on, seek_done}
-use Rattle.subjobs.proofs.judging.ranges.Goals as goal
+use Rattle.subjobs.proofs.judging.OneLengthSet.ranges.Goals as goal
 
 pub loop-place-init : goal.loop-place-init
 loop-place-init c = seek_start _ _
