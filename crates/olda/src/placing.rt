@@ -27,7 +27,8 @@ fn shorten(ends: &mut [u32], execution: u32)
 }
 
 // Takes out the sub-job at k of those left, and the tail that starts with it.
-// Kept so: `order` and `ends` in one struct: what ties them speaks of releases and executions too, and of one loop.
+// Kept so: `order` and `ends` as two parameters; a struct of both would need a ghost field over releases and executions too,
+// and serve one loop alone.
 fn take_out(order: &mut [u32], ends: &mut [u32], k: usize, execution: u32)
     requires { Leaving order.old ends.old k execution }
     ensures { Left order.old ends.old k execution order.new ends.new }
