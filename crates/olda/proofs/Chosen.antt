@@ -1,23 +1,19 @@
--- The choice of one of a list, one after the other: the base sub-job, and the place of the least slack.
+-- The choice of one of a list, one after the other: the base sub-job.
 use Prim.Native.Nat.{ℕ, ◌+◌, ◌<◌, ◌≤◌}
 use mathlib.Core.Bool.{Bool, true, false, cond}
 use mathlib.Core.List.{List}
 use mathlib.Core.Logic.{◌⊎◌}
 use mathlib.Core.Option.{some}
-use mathlib.Core.Path.{◌≡◌, refl, sym, ◌∙◌}
+use mathlib.Core.Path.{◌≡◌, refl, ◌∙◌}
 use native.Mathlib.Numerals.{add-one}
 use native.Mathlib.Omega.{arith}
 use borrow.Author.Tests.{lt-ltb, le-ltb}
 use lib.ListN.{length, drop, drop_of_length-le}
 use lib.Seq.{drop-cons}
-use Rattle.lists.specs.Places.{places}
 use Rattle.lists.specs.Order.{reversed, ahead, choose}
 use Rattle.lists.proofs.Cases.{split}
-use Rattle.lists.proofs.Members.{from-length}
-use Rattle.lists.proofs.Mapped.{places_at}
 use Rattle.subjobs.specs.Sets.{by_pair}
-use Rattle.subjobs.specs.Terms.{by_slack}
-use Rattle.olda.specs.Parts.{at, limits, lower_by, Choosing, Chosen, Tightest}
+use Rattle.olda.specs.Parts.{at, lower_by, Choosing, Chosen}
 
 -- Of the first i of xs p is chosen: against those left it is the choice of all.
 pub record Ahead (lt : ℕ → ℕ → Bool) (xs : List ℕ) (p i : ℕ) : Type 0 where
@@ -91,44 +87,3 @@ module _ {xs us js ks : List ℕ} {k top i : ℕ} (t : Topped xs us js ks k top 
 
   pub topped_all : length xs ≤ i → Chosen xs us js ks k
   topped_all h = record { inside = t.inside; last = ahead_all (reversed (lower_by us js ks)) xs t.best h }
-
--- The least slack of the first i places is that of p.
-pub record Tight (ds zs ls : List ℕ) (p i : ℕ) : Type 0 where
-  pub inside : p < length ls
-  pub best : Ahead (by_slack (limits ds zs) (at ls)) (places (length ls)) p i
-
-pub tight_one : {ds zs ls : List ℕ} → 0 < length ls → Tight ds zs ls 0 1
-tight_one {ds} {zs} {ls} h =
-    let n = length ls in
-    let l = from-length 0 n in
-    record {
-      inside = h;
-      best = rw (places_at n 0 h) at (ahead_first (by_slack (limits ds zs) (at ls)) (places n) (omega arith));
-    }
-
-module _ {ds zs ls : List ℕ} {p i : ℕ} (t : Tight ds zs ls p i) where
-  module _ (h : i < length ls) {r : Bool} (e : r ≡ by_slack (limits ds zs) (at ls) i p) where
-    here : i < length (places (length ls))
-    here = omega (arith, from-length 0 (length ls))
-
-    pub tight_new : r ≡ true → Tight ds zs ls i (i + 1)
-    tight_new y =
-        let z = places_at (length ls) i h in
-        record {
-          inside = h;
-          best = rw z at (ahead_new (by_slack (limits ds zs) (at ls)) (places (length ls)) t.best here (rw z (sym e ∙ y)));
-        }
-
-    pub tight_old : r ≡ false → Tight ds zs ls p (i + 1)
-    tight_old y =
-        record {
-          inside = t.inside;
-          best = ahead_old (by_slack (limits ds zs) (at ls)) (places (length ls)) t.best here (rw (places_at (length ls) i h) (sym e ∙ y));
-        }
-
-  pub tight_all : length ls ≤ i → Tightest ds zs ls p
-  tight_all h =
-      record {
-        inside = t.inside;
-        least = ahead_all (by_slack (limits ds zs) (at ls)) (places (length ls)) t.best (omega (arith, from-length 0 (length ls)));
-      }

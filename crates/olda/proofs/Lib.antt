@@ -1,3 +1,4 @@
+pub mod Picked
 pub mod Shifts
 pub mod Inserting
 pub mod Adding

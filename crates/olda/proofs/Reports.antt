@@ -1,22 +1,22 @@
 -- What the code reports of local deadlines is the report of the rules, and what it answers is the answer.
 use Rattle.std.specs.Prelude.{Option, Ok, Err, Some, None}
-use Prim.Native.Nat.{ℕ, ◌+◌, ◌≤◌}
+use Prim.Native.Nat.{ℕ, ◌<◌, ◌≤◌}
 use mathlib.Core.Bool.{true}
 use mathlib.Core.List.{List}
-use mathlib.Core.Path.{◌≡◌, refl, ap, sym, ◌∙◌}
+use mathlib.Core.Path.{◌≡◌, refl, ap, ◌∙◌}
 use native.Mathlib.Omega.{arith}
 use borrow.Author.Tests.{eq-eqb}
 use lib.Dec.{eqb}
-use lib.IntN.{ℤ, sub_ℕ}
+use lib.IntN.{ℤ}
 use lib.ListN.{length}
-use Rattle.lists.specs.Places.{from}
-use Rattle.lists.specs.Order.{choose}
+use Rattle.lists.specs.Places.{places}
+use Rattle.lists.proofs.Members.{places_in}
+use Rattle.lists.proofs.Choice.{chosen_in}
 use Rattle.subjobs.specs.Judging.{Judgement}
 use Rattle.subjobs.specs.declared.Reason.{Reason}
 use Rattle.subjobs.specs.Sets.{Subjobs, size}
-use Rattle.subjobs.specs.Terms.{Terms, terms}
+use Rattle.subjobs.specs.Terms.{terms, slack, by_slack}
 use Rattle.subjobs.specs.Judging.{judgement, if_passed}
-use Rattle.subjobs.proofs.Differences.{sub_less}
 use Rattle.subjobs.proofs.Fit.{Fit, fit_passes}
 use Rattle.rules.specs.Method.{Outcome, placed, stuck, method}
 use Rattle.olda.specs.declared.Report.{Report}
@@ -25,17 +25,15 @@ use Rattle.olda.specs.Answers.{report, outcome, answer, written, results, Assign
 use Rattle.olda.specs.Parts.{at, limits, ruling, reported, Places, Tightest}
 use Rattle.olda.proofs.Results.{fit_length}
 
-pub reported_none : (T : Terms) (n : ℕ) (d : ℕ → ℕ) → n ≡ 0 → None ≡ reported T n d
-unfolding choose from
-reported_none T n d z = rw z
+module _ (ds zs ls : List ℕ) where
+  pub reported_none : Tightest ds zs ls None → None ≡ reported (limits ds zs) (length ls) (at ls)
+  reported_none t = rw t
 
-pub reported_some :
-    {ds zs ls : List ℕ} {p : ℕ} {x : ℤ}
-    → Tightest ds zs ls p
-    → x ≡ sub_ℕ (at ds p) ((limits ds zs).withheld p + at ls p)
-    → Some (record { slack = x; place = p }) ≡ reported (limits ds zs) (length ls) (at ls)
-reported_some {ds} {zs} {ls} {p} t e =
-    rw t.least (ap (λ (z : ℤ). Some (record { slack = z; place = p })) (e ∙ sym (sub_less (at ds p) (at zs p) (at ls p))))
+  pub reported_some : {p : ℕ} {x : ℤ} → Tightest ds zs ls (Some p) → x ≡ slack (limits ds zs) (at ls) p → Some (record { slack = x; place = p }) ≡ reported (limits ds zs) (length ls) (at ls)
+  reported_some {p} t e = rw t (ap (λ (z : ℤ). Some (record { slack = z; place = p })) e)
+
+  pub tightest_inside : {p : ℕ} → Tightest ds zs ls (Some p) → p < length ls
+  tightest_inside {p} t = places_in (length ls) p (chosen_in (by_slack (limits ds zs) (at ls)) (places (length ls)) t)
 
 -- The ruling, and the report where it passes, are the answer.
 answered : (s : Subjobs) (w : Outcome) (out : List ℕ) → if_passed (ruling (terms s) w) (Ok (report s (at (written w out)))) Err ≡ outcome s w

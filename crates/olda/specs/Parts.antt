@@ -17,7 +17,8 @@
 -- The records are named by what is done with the lists: what is asked before it, and what is told after it.
 use Rattle.std.specs.Prelude.{Option, Err, Some, None, ℕ, ◌+◌, ◌-◌, ◌<◌, ◌≤◌, Bool, List, [], ◌∷◌, ◌++◌, ◌≡◌, length, get_or, map, take, drop}
 use Rattle.std.specs.List.{remove}
-use Rattle.std.proofs.Math.Option.{some}
+use Rattle.std.specs.Option.{MatchOption}
+use Rattle.std.proofs.Math.Option.{none, some}
 use Rattle.lists.specs.Places.{places, weight, Every, Nodup}
 use Rattle.lists.specs.Order.{by, lex, reversed, choose, given}
 use Rattle.subjobs.specs.Judging.{Judgement, passed}
@@ -171,7 +172,7 @@ pub record Places (s : Subjobs) (out : List ℕ) (r : Judgement) (out' : List �
   pub ruled : r ≡ ruling (terms s) (method s)
   pub list : out' ≡ written (method s) out
 
--- The least slack is that of p.
-pub record Tightest (ds zs ls : List ℕ) (p : ℕ) : Type 0 where
-  pub inside : p < length ls
-  pub least : choose (by_slack (limits ds zs) (at ls)) (places (length ls)) ≡ some p
+-- The place of the least slack is found, of several the smallest, and none of no places.
+abbrev pub Tightest : (ds zs ls : List ℕ) → Option ℕ → Type 0
+Tightest ds zs ls r =
+    let q = choose (by_slack (limits ds zs) (at ls)) (places (length ls)) in MatchOption r (q ≡ none) (λ p. q ≡ some p)

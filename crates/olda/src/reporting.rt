@@ -1,6 +1,6 @@
 // What is reported of an accepted set: its least slack and the smallest place that has it.
 ghost use Rattle.std.specs.Prelude.{◌+◌, ◌<◌, ◌≤◌, ◌≡◌, length};
-ghost use Rattle.subjobs.specs.Terms.{by_slack};
+ghost use Rattle.subjobs.specs.Terms.{slack};
 ghost use Rattle.olda.specs.Parts.{at, limits, reported, Tightest};
 
 use crate::Report;
@@ -26,26 +26,19 @@ impl<'a> Accepted<'a> {
         u64::from(withheld(self.criticals, i)) + u64::from(self.local[i])
     }
 
-    // Whether the slack at i is below that at j. Slacks are compared by cross sums.
-    fn tighter(&self, i: usize, j: usize) -> bool
-        requires { (i < length self.now.local.now) × (j < length self.now.local.now) }
-        ensures { result ≡ by_slack (limits self.now.deadlines.now self.now.criticals.now) (at self.now.local.now) i j }
+    // What the upper bound of a sub-job leaves of its local deadline.
+    fn slack(&self, i: usize) -> i64
+        requires { i < length self.now.local.now }
+        ensures { result ≡ slack (limits self.now.deadlines.now self.now.criticals.now) (at self.now.local.now) i }
     {
-        u64::from(self.deadlines[i]) + self.reach(j) < u64::from(self.deadlines[j]) + self.reach(i)
+        difference(self.deadlines[i], self.reach(i))
     }
 
-    // The smallest place of the least slack.
-    fn tightest(&self) -> usize
-        requires { 0 < length self.now.local.now }
+    // The smallest place of the least slack, none of an empty set.
+    fn tightest(&self) -> Option<usize>
         ensures { Tightest self.now.deadlines.now self.now.criticals.now self.now.local.now result }
     {
-        let mut p = 0;
-        for i in 1..self.local.len() {
-            if self.tighter(i, p) {
-                p = i;
-            }
-        }
-        p
+        (0..self.local.len()).min_by_key(|i| self.slack(*i))
     }
 
     // The report of the set.
@@ -54,11 +47,8 @@ impl<'a> Accepted<'a> {
             ≡ reported (limits self.now.deadlines.now self.now.criticals.now) (length self.now.local.now)
             (at self.now.local.now) }
     {
-        if self.local.is_empty() {
-            return None;
-        }
-        let place = self.tightest();
-        let slack = difference(self.deadlines[place], self.reach(place));
+        let place = self.tightest()?;
+        let slack = self.slack(place);
         Some(Report { slack, place })
     }
 }

@@ -1,20 +1,18 @@
--- `Accepted::tightest` meets its contract: of the places looked at so far the one found has the least slack.
+-- `Accepted::tightest` meets its contract: the place that `min_by_key` gives is the one that the rules choose.
 use Rattle.std.proofs.Common.{rules}
-use Rattle.olda.proofs.Chosen.{tight_one, tight_new, tight_old, tight_all}
+use lib.ListN.{length}
+use mathlib.Core.Path.{refl}
+use native.Mathlib.Omega.{arith}
+use Rattle.std.proofs.lemmas.Iterator.{YieldsList-from_range}
+use Rattle.subjobs.proofs.Bounds.{slack_less}
+use Rattle.subjobs.specs.Terms.{slack}
+use Rattle.olda.specs.Parts.{at, limits}
+use Rattle.olda.proofs.Picked.{least_place}
 use Rattle.olda.proofs.reporting.Accepted.tightest.Goals as goal
-use Rattle.olda.proofs.reporting.Accepted.tightest.Goals.{then-tighter, else-tighter}
-
-pub loop-i-init : goal.loop-i-init
-loop-i-init c =
-    search (rules, tight_one)
-
-pub loop-i-preserved : goal.loop-i-preserved
-loop-i-preserved c =
-    elim c.if-tighter.branch [
-      | then-tighter w ↦ rw w.p-is (search (rules, tight_new))
-      | else-tighter w ↦ rw w.p-is (search (rules, tight_old))
-    ]
 
 pub returns : goal.returns
 returns c =
-    search (rules, tight_all)
+    let w = c.args.self.now in
+    let T = limits w.deadlines.now w.criticals.now in
+    least_place _ _ (slack T (at w.local.now)) _ (λ x k q e. search rules) (slack_less T (at w.local.now)) (length w.local.now) _ c.min_by_key.ensures.ran
+    (YieldsList-from_range 0 _ _ refl (omega arith))
