@@ -58,8 +58,8 @@ struct Links<'a> {
 
 impl<'a> Links<'a> {
     // Links all arcs, and counts in `left` those that leave a place.
-    fn link(&mut self, left: &mut [u32])
-        requires { (128 ≤ length left.old) × AtMost 0 left.old × AtMost 0 self.old.first }
+    fn link(&mut self, left: &mut [u32; 128])
+        requires { AtMost 0 left.old × AtMost 0 self.old.first }
         ensures { self.new.sound.graph ≡ self.old.sound.graph }
     {
         let graph = self.sound.graph;
@@ -73,8 +73,8 @@ impl<'a> Links<'a> {
     }
 
     // Takes the arcs that lead to a place. One that they leave waits when the last arc that leaves it is taken.
-    fn take(&self, place: usize, found: &mut [u64], left: &mut [u32], queue: &mut Queue)
-        requires { (place < 128) × (128 ≤ length left.old) × Values (graph_of self.now.sound.graph) 299 found.old }
+    fn take(&self, place: usize, found: &mut [u64], left: &mut [u32; 128], queue: &mut Queue)
+        requires { (place < 128) × Values (graph_of self.now.sound.graph) 299 found.old }
         ensures grown { Grown (graph_of self.now.sound.graph) turned found.old found.new }
         ensures head { queue.new.head ≡ queue.old.head }
     {
@@ -111,8 +111,8 @@ fn ends(left: &[u32], queue: &mut Queue)
 }
 
 // Takes the arcs of all places, in the order in which these come to wait.
-fn peel(links: &Links, found: &mut [u64], left: &mut [u32], queue: &mut Queue)
-    requires { (128 ≤ length left.old) × Values (graph_of links.now.sound.graph) 298 found.old }
+fn peel(links: &Links, found: &mut [u64], left: &mut [u32; 128], queue: &mut Queue)
+    requires { Values (graph_of links.now.sound.graph) 298 found.old }
     ensures { Grown (graph_of links.now.sound.graph) most found.old found.new }
 {
     while let Some(place) = queue.pop() {

@@ -6,7 +6,7 @@ use Rattle.graph.proofs.guessing.peel.Goals as goal
 pub take-requires : goal.take-requires
 take-requires c =
     let L = c.loop-place in
-    (c.in-Some.ensures.0, omega (arith, c.requires.0, L.auto.left), grown_values _ 299 (omega (arith, L.queue.inside.0)) (omega arith) c.requires.1 L.invariant)
+    (c.in-Some.ensures.0, grown_values _ 299 (omega (arith, L.queue.inside.0)) (omega arith) c.requires L.invariant)
 
 pub loop-place-preserved : goal.loop-place-preserved
 loop-place-preserved c =

@@ -8,14 +8,14 @@ use Rattle.graph.proofs.guessing.Links.take.Goals.{then-last, else-last}
 
 pub raise-requires : goal.raise-requires
 raise-requires c =
-    (omega (arith, c.loop-link.invariant.inside), grown_values _ 300 (omega arith) (omega arith) c.requires.2 c.loop-link.invariant.grown)
+    (omega (arith, c.loop-link.invariant.inside), grown_values _ 300 (omega arith) (omega arith) c.requires.1 c.loop-link.invariant.grown)
 
 pub loop-link-preserved : goal.loop-link-preserved
 loop-link-preserved c =
     let L = c.loop-link in
     let S = c.args.self.now in
     let h : L.link - 1 < arcs (graph_of S.sound.graph) = omega (arith, L.invariant.inside) in
-    let room : size (graph_of S.sound.graph) ≤ length L.found = omega (arith, c.requires.2.room, L.auto.found) in
+    let room : size (graph_of S.sound.graph) ≤ length L.found = omega (arith, c.requires.1.room, L.auto.found) in
     let falls = S.falls (L.link - 1) in
     record {
       inside = omega arith;
