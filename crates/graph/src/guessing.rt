@@ -73,7 +73,7 @@ impl<'a> Links<'a> {
     }
 
     // Takes the arcs that lead to a place. One that they leave waits when the last arc that leaves it is taken.
-    fn take(&self, place: usize, found: &mut [u64], left: &mut [u32; 128], queue: &mut Queue)
+    fn take(&self, place: usize, found: &mut [u64; 128], left: &mut [u32; 128], queue: &mut Queue)
         requires { (place < 128) × Values (graph_of self.now.sound.graph) 299 found.old }
         ensures grown { Grown (graph_of self.now.sound.graph) turned found.old found.new }
         ensures head { queue.new.head ≡ queue.old.head }
@@ -111,7 +111,7 @@ fn ends(left: &[u32], queue: &mut Queue)
 }
 
 // Takes the arcs of all places, in the order in which these come to wait.
-fn peel(links: &Links, found: &mut [u64], left: &mut [u32; 128], queue: &mut Queue)
+fn peel(links: &Links, found: &mut [u64; 128], left: &mut [u32; 128], queue: &mut Queue)
     requires { Values (graph_of links.now.sound.graph) 298 found.old }
     ensures { Grown (graph_of links.now.sound.graph) most found.old found.new }
 {
@@ -121,7 +121,7 @@ fn peel(links: &Links, found: &mut [u64], left: &mut [u32; 128], queue: &mut Que
 }
 
 // The guess, in rooms of its own.
-pub(crate) fn guess(sound: &SoundGraph, found: &mut [u64])
+pub(crate) fn guess(sound: &SoundGraph, found: &mut [u64; 128])
     requires { Values (graph_of sound.now.graph) 298 found.old }
     ensures { Grown (graph_of sound.now.graph) most found.old found.new }
 {

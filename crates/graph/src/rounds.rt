@@ -10,7 +10,7 @@ use subjobs::Reason;
 
 // Raises the start of an arc to what the arc asks, which is its cost and the value of the place that it leads to. Whether
 // it rose.
-pub(crate) fn raise(sound: &SoundGraph, found: &mut [u64], arc: usize) -> bool
+pub(crate) fn raise(sound: &SoundGraph, found: &mut [u64; 128], arc: usize) -> bool
     requires { (arc < arcs (graph_of sound.now.graph)) × Values (graph_of sound.now.graph) 300 found.old }
     ensures { Raised (graph_of sound.now.graph) arc found.old found.new result }
 {
@@ -38,7 +38,7 @@ fn arc_at(turn: usize, m: usize, k: usize) -> usize
 }
 
 // One round: whether any value rose.
-fn round(sound: &SoundGraph, found: &mut [u64], turn: usize) -> bool
+fn round(sound: &SoundGraph, found: &mut [u64; 128], turn: usize) -> bool
     requires { Values (graph_of sound.now.graph) 299 found.old }
     ensures { Rounded (graph_of sound.now.graph) found.old found.new result }
 {
@@ -55,8 +55,8 @@ fn round(sound: &SoundGraph, found: &mut [u64], turn: usize) -> bool
 // Rounds until nothing rises. One more than there are places shows a cycle, refusal 21, if they all raise something. Three
 // are enough where the arcs are listed as paths run, either way; otherwise many of them are saved by a guess, unless they
 // are few.
-pub(crate) fn settle(sound: &SoundGraph, found: &mut [u64]) -> Result<(), Reason>
-    requires { (128 ≤ length found.old) × AtMost 0 found.old }
+pub(crate) fn settle(sound: &SoundGraph, found: &mut [u64; 128]) -> Result<(), Reason>
+    requires { AtMost 0 found.old }
     ensures { Settles (graph_of sound.now.graph) found.new result }
 {
     let n = sound.graph.executions.len();

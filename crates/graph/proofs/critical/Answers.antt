@@ -1,5 +1,5 @@
 -- `critical` meets its contract: a refusal of `judge`, a cycle that the rounds show, or the values that they settle.
-use Rattle.std.proofs.Common.{arith, sym, ◌∙◌}
+use Rattle.std.proofs.Common.{sym, ◌∙◌}
 use Rattle.std.proofs.lemmas.Result.{err_from_is_err_and}
 use Rattle.graph.specs.Graphs.{graph_of}
 use Rattle.graph.proofs.Growing.{at_most_zeros}
@@ -13,7 +13,7 @@ returns-in_err-sound c =
     rw (p.1, p.2) (refused_first (graph_of c.args.graph.now) _ _ (sym c.in_err-sound.ensures.answer))
 
 pub settle-requires : goal.settle-requires
-settle-requires c = (omega arith, at_most_zeros 128 0)
+settle-requires c = at_most_zeros 128 0
 
 -- a cycle
 pub returns-in_err-settle : goal.returns-in_err-settle

@@ -15,7 +15,7 @@ pub loop-k-preserved : goal.loop-k-preserved
 loop-k-preserved c =
     let s = c.args.sound.now.sound in
     let h = c.loop-k-test.true in
-    let room : size (graph_of c.args.sound.now.graph) ≤ length c.loop-k.found = omega (arith, c.requires.room, c.loop-k.auto.found) in
+    let room : size (graph_of c.args.sound.now.graph) ≤ length c.loop-k.found = omega (arith, s.few.subjobs) in
     let R = rw c.arc_at.ensures.0 at c.raise.ensures in
     elim c.if-raise.branch [
       | then-raise w ↦ rw w.rose-is (going_up _ s c.loop-k.invariant h room (rw w.if-raise.true at R))

@@ -7,7 +7,7 @@ use Rattle.graph.proofs.rounds.settle.Goals as goal
 use Rattle.graph.proofs.rounds.settle.Goals.{then-turn-n, else-turn-n, Joined-turn-n}
 
 pub loop-turn-init : goal.loop-turn-init
-loop-turn-init c = turning_start _ _ (omega (arith, c.requires.0, c.args.sound.now.sound.few.subjobs)) c.requires.1
+loop-turn-init c = turning_start _ _ (omega (arith, c.args.sound.now.sound.few.subjobs)) c.requires
 
 pub guess-requires : goal.guess-requires
 guess-requires c =

@@ -15,7 +15,7 @@ loop-link-preserved c =
     let L = c.loop-link in
     let S = c.args.self.now in
     let h : L.link - 1 < arcs (graph_of S.sound.graph) = omega (arith, L.invariant.inside) in
-    let room : size (graph_of S.sound.graph) ≤ length L.found = omega (arith, c.requires.1.room, L.auto.found) in
+    let room : size (graph_of S.sound.graph) ≤ length L.found = omega (arith, S.sound.sound.few.subjobs) in
     let falls = S.falls (L.link - 1) in
     record {
       inside = omega arith;
