@@ -29,14 +29,16 @@ fn in_range(numbers: &[u32], low: u32, high: u32, field: Field) -> Result<(), Re
     }
 }
 
-// The first arc that does not start from or does not lead to one of n sub-jobs.
-fn first_stray(befores: &[u32], afters: &[u32], n: u32) -> Option<usize>
-    ensures { result ≡ position (λ arc. not (ltb arc.0 n && ltb arc.1 n)) (zip befores.now afters.now) }
+// The first arc that does not start from or does not lead to a sub-job.
+fn first_stray(graph: &Graph) -> Option<usize>
+    requires { size (graph_of graph.now) ≤ 128 }
+    ensures { result ≡ position
+        (λ arc. not (ltb arc.0 (size (graph_of graph.now)) && ltb arc.1 (size (graph_of graph.now))))
+        (zip graph.now.befores.now graph.now.afters.now) }
 {
-    befores
-        .iter()
-        .zip(afters)
-        .position(|(before, after)| !(*before < n && *after < n))
+    let n = graph.executions.len() as u32;
+    let mut ends = graph.befores.iter().zip(graph.afters);
+    ends.position(|(before, after)| !(*before < n && *after < n))
 }
 
 // 20: an arc that names no sub-job.
@@ -44,7 +46,7 @@ fn named(graph: &Graph) -> Result<(), Reason>
     requires { (size (graph_of graph.now) ≤ 128) × (length graph.now.afters.now ≡ length graph.now.befores.now) }
     ensures { result ≡ first_refusal (arc_at (graph_of graph.now)) (arcs (graph_of graph.now)) }
 {
-    match first_stray(graph.befores, graph.afters, graph.executions.len() as u32) {
+    match first_stray(graph) {
         Some(arc) => Err(Reason::Stray { arc }),
         None => Ok(()),
     }

@@ -31,10 +31,7 @@ fn arc_at(turn: usize, m: usize, k: usize) -> usize
     requires { k < m }
     ensures { (result ≡ arc_at turn m k) × (result < m) }
 {
-    if turn % 2 == 0 {
-        return m - 1 - k;
-    }
-    k
+    if turn % 2 == 0 { m - 1 - k } else { k }
 }
 
 // One round: whether any value rose.
