@@ -121,6 +121,7 @@ fn peel(links: &Links, found: &mut [u64; 128], left: &mut [u32; 128], queue: &mu
 }
 
 // The guess, in rooms of its own.
+// Kept so: an array of which a part is used, since the library has no heap.
 pub(crate) fn guess(sound: &SoundGraph, found: &mut [u64; 128])
     requires { Values (graph_of sound.now.graph) 298 found.old }
     ensures { Grown (graph_of sound.now.graph) most found.old found.new }

@@ -14,6 +14,7 @@ mod lent;
 mod rounds;
 
 // Writes each sub-job's critical time; or answers why there are none, with the results left as they were.
+// Kept so: an array of which a part is used, since the library has no heap.
 pub fn critical(graph: &Graph<'_>, results: &mut [u32]) -> Result<(), Reason>
     ensures { Finds (graph_of graph.now) results.old result results.new }
 {

@@ -68,7 +68,9 @@ pub(crate) fn settle(sound: &SoundGraph, found: &mut [u64; 128]) -> Result<(), R
     Err(Reason::Cycle)
 }
 
-// The values, in 32 bits.
+// The values, in 32 bits. They fit, as `Small` says, so `try_from` would have an error that never comes.
+// Kept so: tried `out.iter_mut().zip(found)`: the proof did not close at `returns`, since no fact ties what stands in `out`
+// after such a loop to what the loop wrote.
 pub(crate) fn write(found: &[u64], out: &mut [u32])
     requires { Small found.now (length out.old) }
     ensures { out.new ≡ take (length out.old) found.now }
