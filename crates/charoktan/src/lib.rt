@@ -24,8 +24,8 @@ fn told(outcome: Result<(), Reason>) -> u32
     match outcome {
         Ok(()) => 0,
         Err(reason) => {
-            let told = Told::from(reason);
-            told.number + 65_536 * (told.place as u32)
+            let refusal = Told::from(reason);
+            refusal.number + 65_536 * (refusal.place as u32)
         }
     }
 }

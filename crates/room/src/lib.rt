@@ -21,8 +21,8 @@ fn told(answer: Result<Option<Report>, Reason>) -> (u32, u32)
     match answer {
         Ok(_) => (0, 0),
         Err(reason) => {
-            let told = Told::from(reason);
-            (told.number, told.place as u32)
+            let refusal = Told::from(reason);
+            (refusal.number, refusal.place as u32)
         }
     }
 }

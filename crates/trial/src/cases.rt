@@ -29,18 +29,19 @@ enum Kind {
     Room,
 }
 
-impl Kind {
-    // The kind with this number, if there is one.
-    // Kept so: `TryFrom` would want a type for an error that says no more than `None`.
-    fn numbered(number: u64) -> Option<Kind> {
+// The kind with a number, if there is one.
+impl TryFrom<u64> for Kind {
+    type Error = ();
+
+    fn try_from(number: u64) -> Result<Kind, ()> {
         match number {
-            1 => Some(Kind::Assign),
-            2 => Some(Kind::Simulate),
-            3 => Some(Kind::Check),
-            4 => Some(Kind::Table),
-            5 => Some(Kind::Critical),
-            6 => Some(Kind::Room),
-            _ => None,
+            1 => Ok(Kind::Assign),
+            2 => Ok(Kind::Simulate),
+            3 => Ok(Kind::Check),
+            4 => Ok(Kind::Table),
+            5 => Ok(Kind::Critical),
+            6 => Ok(Kind::Room),
+            _ => Err(()),
         }
     }
 }
@@ -50,7 +51,7 @@ impl Kind {
 pub(crate) fn all(rt: &HostRuntime, text: &[u8]) -> io::Result<()> {
     let mut reader = Reader::new(text, rt.alloc());
     for _ in text {
-        let Some(kind) = Kind::numbered(reader.number()) else {
+        let Ok(kind) = Kind::try_from(reader.number()) else {
             break;
         };
         one(rt, kind, &mut reader)?;
