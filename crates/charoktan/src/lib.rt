@@ -17,6 +17,8 @@ mod bytes;
 mod rooms;
 
 // The number returned: 0, or the number of a refusal and above it its place.
+// Kept so: C is given one number. `Small` is a clause of every function here that hands on a reason: a type of the door's
+// own that carries it would have to be made of std's `Result` and taken apart again at each `?`.
 fn told(outcome: Result<(), Reason>) -> u32
     requires { Small outcome }
     ensures { result ≡ told outcome }
@@ -52,6 +54,7 @@ fn assign_set(set: &Set<'_>, local: &mut [u32], deadlines: &mut [u8]) -> Result<
 
 // The assignment on whole records, with room for N of them. Not inlined, so that a room's loop holds what chooses between
 // the two sizes: 3 percent of a room with 4 sub-jobs per set.
+// Kept so: arrays of which a part is used, here and in `check_within` and `critical_within`, since the library has no heap.
 #[inline(never)]
 fn assign_within<const N: usize>(records: &[u8], deadlines: &mut [u8]) -> Result<(), Reason>
     requires { Within records.now deadlines.old N }
@@ -68,6 +71,8 @@ fn assign_within<const N: usize>(records: &[u8], deadlines: &mut [u8]) -> Result
 }
 
 // The assignment, or why it is refused. Up to 8 sub-jobs work in rooms of their own, since these are cleared at each call.
+// Kept so: `check` and `critical` choose between two sizes alike. One function for all three would have to be handed a
+// function that itself has a size to be chosen.
 fn assign(records: &[u8], deadlines: &mut [u8]) -> Result<(), Reason>
     ensures small { Small result }
     ensures assigns { AssignsBytes records.now deadlines.old (told result) deadlines.new }
@@ -133,7 +138,6 @@ fn fitting_graph(executions: &[u8], arcs: &[u8], results: usize) -> bool
 }
 
 // Critical times of whole executions and arcs, with room for N sub-jobs and M arcs.
-// Kept so: arrays of which a part is used, since the library has no heap.
 fn critical_within<const N: usize, const M: usize>(
     executions: &[u8],
     arcs: &[u8],

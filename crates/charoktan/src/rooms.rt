@@ -1,5 +1,6 @@
 // A room at the door: its sets one after another, each by `charoktan_assign` on its own stretch of the bytes.
-// Kept so: `room` walks so too, on lists; one walk for both takes a crate below them and closures, and is longer.
+// Kept so: `adds_up`, `fitting`, `assign_each` and `assign` have twins in `room`, on lists. One walk for both takes a crate
+// below them and closures, and is longer.
 ghost use Rattle.std.specs.Prelude.{◌+◌, ◌*◌, ◌/◌, ◌<◌, ◌≡◌, eqb, length, get_or};
 ghost use Rattle.lists.specs.Places.{total};
 ghost use Rattle.stretches.specs.Stretches.{replaced};

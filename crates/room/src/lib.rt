@@ -1,6 +1,8 @@
 // A room: the sets of several cores in one call. They stand one after another in the same six lists.
 //
 // `assign` tests the lists (1, 22) and then asks `olda::assign` set by set, each on its own stretch.
+// Kept so: `adds_up`, `fitting`, `assign_each` and `assign` have twins in charoktan's rooms, on bytes. One walk for both
+// takes a crate below them and closures, and is longer.
 #![tactic(auto)]
 
 ghost use Rattle.std.specs.Prelude.{◌+◌, ◌≤◌, ◌<◌, ◌≡◌, eqb, length};
@@ -52,6 +54,9 @@ fn assign_at(
 }
 
 // Every set in turn, whatever became of those before it.
+// Kept so: `lengths`, `results`, `numbers` and `places` are lent one by one, here and in `fitting` and `assign`, as the
+// scope has it for the public one. A struct that holds the lent lists needs one more clause per function, that they still
+// are the caller's.
 fn assign_each(
     sets: &Set<'_>,
     lengths: &[u32],
