@@ -113,13 +113,15 @@ module _ (bs ls : List ℕ) where
           }
 
       pub turned_next :
-          {out' ks' ps' : List ℕ} {r : ℕ}
+          {out' ks' ps' : List ℕ} {r number place : ℕ}
           → r ≡ code_at bs a n
           → out' ≡ replaced (4 * a) (4 * n) (bytes_at bs out a n) out
-          → ks' ≡ take (4 * k) ks ++ bytes (r % 65_536) ++ drop (4 * k + 4) ks
-          → ps' ≡ take (4 * k) ps ++ bytes (r / 65_536) ++ drop (4 * k + 4) ps
+          → number ≡ r % 65_536
+          → place ≡ r / 65_536
+          → ks' ≡ take (4 * k) ks ++ bytes number ++ drop (4 * k + 4) ks
+          → ps' ≡ take (4 * k) ps ++ bytes place ++ drop (4 * k + 4) ps
           → Turned old ks₀ ps₀ out' ks' ps' (a + n) (k + 1)
-      turned_next {out'} {ks'} {ps'} {r} er eo ek ep =
+      turned_next {out'} {ks'} {ps'} {r} er eo en' ep' ek ep =
           let W = T.written in
           let S = turned_stretch in
           let at : a ≡ start (words_of ls) k = written_start 4 (bytes_at bs old) (words_of ls) old out a k W in
@@ -133,11 +135,11 @@ module _ (bs ls : List ℕ) where
                 eo;
             numbered =
                 put_next T.numbered (omega (arith, numbers_length))
-                (rw (er, at, en) (sym (each_at (λ a n. code_at bs a n % 65_536) 0 (words_of ls) k inside)))
+                (rw (en', er, at, en) (sym (each_at (λ a n. code_at bs a n % 65_536) 0 (words_of ls) k inside)))
                 ek;
             placed =
                 put_next T.placed (omega (arith, places_length))
-                (rw (er, at, en) (sym (each_at (λ a n. code_at bs a n / 65_536) 0 (words_of ls) k inside)))
+                (rw (ep', er, at, en) (sym (each_at (λ a n. code_at bs a n / 65_536) 0 (words_of ls) k inside)))
                 ep;
           }
 

@@ -57,8 +57,8 @@ impl<const N: usize> Fields<N> {
     }
 
     // The set that records of 24 bytes hold: read into the room, and lent from there.
-    // Kept so: one pass over the records. Six of `column` miss the bar of speed: 4, 16 and 64 sub-jobs that are accepted
-    // took 1025 8719 55623 instructions, and then 1092 9225 55709.
+    // Kept so: tried: six passes of `column` in place of one miss the bar of speed (4, 16 and 64 accepted sub-jobs 1025 8719
+    // 55623 -> 1092 9225 55709 instructions).
     pub(crate) fn read(&mut self, bytes: &[u8]) -> Set<'_>
         requires { count bytes.now ≤ N }
         ensures { subjobs_of result ≡ records bytes.now }

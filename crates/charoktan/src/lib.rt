@@ -3,7 +3,7 @@
 // `charoktan_c` exports these functions to C and C++ under their names.
 #![tactic(auto)]
 
-ghost use Rattle.std.specs.Prelude.{◌*◌, ◌≡◌, length};
+ghost use Rattle.std.specs.Prelude.{◌*◌, ◌/◌, ◌%◌, ◌≡◌, length};
 ghost use Rattle.subjobs.specs.Sets.{subjobs_of};
 ghost use Rattle.charoktan.specs.Records.{fitting, fitting_graph, Within, GraphWithin};
 ghost use Rattle.charoktan.specs.Answers.{told, Small, AssignsSet, AssignsBytes, ChecksBytes, FindsBytes};
@@ -16,20 +16,30 @@ use subjobs::{Reason, Set, Told};
 mod bytes;
 mod rooms;
 
-// The number returned: 0, or the number of a refusal and above it its place.
-// Kept so: C is given one number. `Small` is a clause of every function here that hands on a reason: a type of the door's
+// The number of a refusal and its place; both are 0 if there is none.
+// Kept so: `Small` is a clause of every function here that hands on a reason: a type of the door's
 // own that carries it would have to be made of std's `Result` and taken apart again at each `?`.
-fn told(outcome: Result<(), Reason>) -> u32
+fn told(outcome: Result<(), Reason>) -> (u32, u32)
+    requires { Small outcome }
+    ensures { (result.0 ≡ told outcome % 65_536) × (result.1 ≡ told outcome / 65_536) }
+{
+    match outcome {
+        Ok(()) => (0, 0),
+        Err(reason) => {
+            let refusal = Told::from(reason);
+            (refusal.number, refusal.place as u32)
+        }
+    }
+}
+
+// The number returned: 0, or the number of a refusal and above it its place.
+// Kept so: C is given one number.
+fn code(outcome: Result<(), Reason>) -> u32
     requires { Small outcome }
     ensures { result ≡ told outcome }
 {
-    match outcome {
-        Ok(()) => 0,
-        Err(reason) => {
-            let refusal = Told::from(reason);
-            refusal.number + 65_536 * (refusal.place as u32)
-        }
-    }
+    let (number, place) = told(outcome);
+    number + 65_536 * place
 }
 
 // Whether the bytes are whole records and the results have 4 bytes for each.
@@ -91,7 +101,7 @@ fn assign(records: &[u8], deadlines: &mut [u8]) -> Result<(), Reason>
 pub fn charoktan_assign(records: &[u8], deadlines: &mut [u8]) -> u32
     ensures { AssignsBytes records.now deadlines.old result deadlines.new }
 {
-    told(assign(records, deadlines))
+    code(assign(records, deadlines))
 }
 
 // The checker on whole records, with room for N of them.
@@ -127,7 +137,7 @@ fn check(records: &[u8], deadlines: &[u8]) -> Result<(), Reason>
 pub fn charoktan_check(records: &[u8], deadlines: &[u8]) -> u32
     ensures { ChecksBytes records.now deadlines.now result }
 {
-    told(check(records, deadlines))
+    code(check(records, deadlines))
 }
 
 // Whether executions and arcs are whole, and the results have 4 bytes for each execution.
@@ -187,7 +197,7 @@ fn critical(executions: &[u8], arcs: &[u8], results: &mut [u8]) -> Result<(), Re
 pub fn charoktan_critical(executions: &[u8], arcs: &[u8], results: &mut [u8]) -> u32
     ensures { FindsBytes executions.now arcs.now results.old result results.new }
 {
-    told(critical(executions, arcs, results))
+    code(critical(executions, arcs, results))
 }
 
 // The sets of a room: 0, with each set's number and place written and the deadlines of those that are accepted; or a
@@ -203,5 +213,5 @@ pub fn charoktan_room(
         numbers.old places.old)
         result deadlines.new numbers.new places.new }
 {
-    told(rooms::assign(records, lengths, deadlines, numbers, places))
+    code(rooms::assign(records, lengths, deadlines, numbers, places))
 }

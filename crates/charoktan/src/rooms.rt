@@ -1,4 +1,4 @@
-// A room at the door: its sets one after another, each by `charoktan_assign` on its own stretch of the bytes.
+// A room at the door: its sets one after another, each by `assign` on its own stretch of the bytes.
 // Kept so: `adds_up`, `fitting`, `assign_each` and `assign` have twins in `room`, on lists. One walk for both takes a crate
 // below them and closures, and is longer.
 ghost use Rattle.std.specs.Prelude.{◌+◌, ◌*◌, ◌/◌, ◌<◌, ◌≡◌, eqb, length, get_or};
@@ -37,14 +37,15 @@ fn fitting(records: &[u8], lengths: &[u8], deadlines: usize, numbers: usize, pla
 }
 
 // One set: its stretch of the records and the middle of the deadlines are lent to the assignment.
-fn assign_at(records: &[u8], start: usize, count: usize, deadlines: &mut [u8]) -> u32
+fn assign_at(records: &[u8], start: usize, count: usize, deadlines: &mut [u8]) -> Result<(), Reason>
     requires { Stretch records.now deadlines.old start count }
-    ensures { (result ≡ code_at records.now start count)
+    ensures small { Small result }
+    ensures assigns { (told result ≡ code_at records.now start count)
         × (deadlines.new ≡ replaced (4 * start) (4 * count)
         (bytes_at records.now deadlines.old start count) deadlines.old) }
 {
     let end = start + count;
-    crate::charoktan_assign(
+    crate::assign(
         &records[24 * start..24 * end],
         &mut deadlines[4 * start..4 * end],
     )
@@ -66,9 +67,9 @@ fn assign_each(
     let mut start = 0;
     for (k, length) in lengths.iter().enumerate() {
         let count = u32::from_le_bytes(*length) as usize;
-        let code = assign_at(records, start, count, deadlines);
-        bytes::put(numbers, 4 * k, code % 65_536);
-        bytes::put(places, 4 * k, code / 65_536);
+        let (number, place) = crate::told(assign_at(records, start, count, deadlines));
+        bytes::put(numbers, 4 * k, number);
+        bytes::put(places, 4 * k, place);
         start += count;
     }
 }

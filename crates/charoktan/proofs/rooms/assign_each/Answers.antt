@@ -10,16 +10,16 @@ pub loop-k-init : goal.loop-k-init
 loop-k-init c =
     turned_none _ _ _ _ _ c.requires
 
-pub assign_at-code-requires : goal.assign_at-code-requires
-assign_at-code-requires c =
+pub assign_at-requires : goal.assign_at-requires
+assign_at-requires c =
     let h : c.loop-k.k < length c.args.lengths.now / 4 = omega (arith, c.as_chunks.ensures.front_len) in
     turned_stretch _ _ c.loop-k.invariant h _ (c.from_le_bytes-count.ensures ∙ length_here _ _ _ c.as_chunks.ensures.front h)
 
 pub loop-k-preserved : goal.loop-k-preserved
 loop-k-preserved c =
     let h : c.loop-k.k < length c.args.lengths.now / 4 = omega (arith, c.as_chunks.ensures.front_len) in
-    let a = c.assign_at-code.ensures in
-    turned_next _ _ c.loop-k.invariant h _ (c.from_le_bytes-count.ensures ∙ length_here _ _ _ c.as_chunks.ensures.front h) a.0 a.1
+    let a = c.assign_at.ensures.assigns in
+    turned_next _ _ c.loop-k.invariant h _ (c.from_le_bytes-count.ensures ∙ length_here _ _ _ c.as_chunks.ensures.front h) a.0 a.1 c.told-number.ensures.0 c.told-number.ensures.1
     c.put.ensures
     c.put-in-loop-k.ensures
 
