@@ -4,9 +4,9 @@ ghost use Rattle.std.specs.Prelude.{◌≤◌, IfOk, length};
 use std::io::{self, Read};
 
 // Reads standard input to its end or until the room is full, and answers how many bytes came; or the error, if a read
-// failed. What came before a read that failed may be the beginning of a table only.
-// Kept so: no method of std counts what came into a room; `read_to_end` reads again where a read was interrupted,
-// and `serve` then ends with its line on standard error, which may not change.
+// failed.
+// Kept so: std's `read_to_end` says nothing of what stands in the room after an error, and the beginning of a table must not
+// be taken for the whole. It also reads on where a read was interrupted, and there the program has to end with its line.
 fn fill(rt: &HostRuntime, room: &mut [u8]) -> io::Result<usize>
     ensures { IfOk result (λ n. n ≤ length room.new) }
 {

@@ -1,6 +1,6 @@
 -- How the definitions of Reading.antt go on from one byte to the next.
 use Prim.Native.Nat.{ℕ, zero, suc, ◌+◌, ◌*◌, ◌-◌, ◌<◌, ◌≤◌}
-use mathlib.Core.Bool.{true, false, ◌||◌, ◌&&◌, and-false, and-true}
+use mathlib.Core.Bool.{true, false, cond, ◌||◌, ◌&&◌, and-false, and-true}
 use mathlib.Core.List.{List, [], ◌∷◌, ◌++◌, append_assoc, append-nil}
 use mathlib.Core.Path.{◌≡◌, refl, sym, ap, ◌∙◌}
 use native.Mathlib.Nat.{sub-zero, add-zero, zero-add}
@@ -19,8 +19,9 @@ use Rattle.std.proofs.lemmas.Slice.{between_to_end}
 use Rattle.lists.specs.Places.{Every}
 use Rattle.lists.proofs.Cases.{test, clash, both, tests, neither}
 use Rattle.lists.proofs.Count.{left_none}
+use Rattle.text.proofs.Stored.{last_left}
 use Rattle.text.specs.Format.{Digit, value_from}
-use Rattle.text.specs.Reading.{byte_at, digits, number, number_at, cell_at, line_end, Fields, on_cell, record_at, starts, Recorded}
+use Rattle.text.specs.Reading.{byte_at, digits, number, number_at, followed, field_at, cell_at, line_end, Fields, on_cell, record_at, starts, Recorded}
 
 -- A byte that is a digit.
 pub digit : (b : ℕ) → (ltb b 48 || ltb 57 b) ≡ false → (48 ≤ b) × (b ≤ 57)
@@ -167,6 +168,13 @@ module _ {text out₀ out : List ℕ} {at i k : ℕ} (f : Filled text at out₀ 
   module _ (h : k < length out₀) where
     left : length out - k ≡ suc (length out - k - 1)
     left = omega (arith, f.same)
+
+    pub cell_here :
+        {c : Option (ℕ × ℕ)}
+        → c ≡ cond (eqb (k + 1) (length out)) (field_at text i) (followed text 44 (field_at text i))
+        → cell_at (length out - k - 1) text i ≡ c
+    unfolding cell_at
+    cell_here e = sym (e ∙ rw (last_left (length out) k (omega (arith, f.same))))
 
     pub filled_broken : cell_at (length out - k - 1) text i ≡ None → Recorded text at out₀ None out
     unfolding record_at

@@ -1,16 +1,17 @@
 -- Stores one behind the other: how the parts of a text that the writer's functions put are one text.
 use Prim.Native.Nat.{ℕ, suc, ◌+◌, ◌-◌, ◌/◌, ◌%◌, ◌<◌, ◌≤◌}
+use mathlib.Core.Bool.{cond}
 use mathlib.Core.List.{List, [], ◌∷◌, ◌++◌, append_assoc, append-nil}
 use mathlib.Core.Path.{◌≡◌, refl, sym, ap, ◌∙◌}
 use native.Mathlib.Nat.{add-zero}
 use native.Mathlib.Numerals.{add-one}
 use native.Mathlib.Omega.{arith}
-use borrow.Author.Tests.{lt-ltb, le-ltb}
-use lib.Dec.{leb}
+use borrow.Author.Tests.{lt-ltb, le-ltb, eq-eqb, ne_eqb}
+use lib.Dec.{leb, eqb}
 use lib.ListN.{length, get_or, take, drop, set, length-append, length-drop, drop_of_length-le}
 use lib.Seq.{sets, set_out, length-sets, take-suc, drop-cons}
-use Rattle.lists.proofs.Cases.{test, tests}
-use Rattle.text.specs.Writing.{figures, cell_text, line_text, reach, Wrote}
+use Rattle.lists.proofs.Cases.{test, tests, eqb_no}
+use Rattle.text.specs.Writing.{figures, decimal, crlf, cell_text, line_text, reach, Wrote}
 
 sets-append : (l : List ℕ) (i : ℕ) (a b : List ℕ) → sets l i (a ++ b) ≡ sets (sets l i a) (i + length a) b
 sets-append l i [] b = rw (add-zero i)
@@ -73,6 +74,11 @@ module _ {l m : List ℕ} {at i : ℕ} (p x : ℕ) (some : 0 < p) where
       let e : p ≡ suc (p - 1) = omega arith in
       rw (ap (λ k. figures k x) e ∙ tenth (p - 1) x h) (then v w)
 
+-- The last of n is the one behind which none is left.
+pub last_left : (n i : ℕ) → i < n → eqb (i + 1) n ≡ eqb (n - i - 1) 0
+last_left n i h =
+    test (eqb (i + 1) n) (λ e. e ∙ sym (eq-eqb _ _ (omega tests))) (λ e. e ∙ sym (ne_eqb _ _ (λ q. eqb_no (i + 1) n e (omega arith))))
+
 -- A record, field by field: what is written and what is left make the whole line.
 pub record Begun (values l : List ℕ) (at : ℕ) (m : List ℕ) (e i : ℕ) : Type 0 where
   pub text : List ℕ
@@ -86,14 +92,14 @@ module _ (values : List ℕ) {l m : List ℕ} {at e i : ℕ} (b : Begun values l
   pub begun_more :
       {n : List ℕ} {e' : ℕ}
       → i < length values
-      → Wrote m e (cell_text (length values - i - 1) (get_or values i 0)) n e'
+      → Wrote m e (decimal (get_or values i 0) ++ cond (eqb (i + 1) (length values)) crlf (44 ∷ [])) n e'
       → Begun values l at n e' (i + 1)
   unfolding line_text
   begun_more h q =
       let z : length (drop (suc i) values) ≡ length values - i - 1 = length-drop (suc i) values ∙ omega arith in
       record {
         text = b.text ++ cell_text (length values - i - 1) (get_or values i 0);
-        wrote = then b.wrote q;
+        wrote = then b.wrote (rw (last_left (length values) i h) at q);
         whole = b.whole ∙ rw (drop-cons values i 0 h, z, add-one i) (sym (append_assoc b.text _ _));
       }
 

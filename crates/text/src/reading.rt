@@ -1,11 +1,12 @@
 // Reading: the numbers of a record, from a place of a text on.
-// Kept so: text and place are two parameters, since `record_at` and the definitions go by the place of a byte.
-ghost use Rattle.std.specs.Prelude.{◌<◌, ◌^◌, ◌≡◌, SomeIff, drop, length};
+// Kept so: text and place are two parameters, since `Recorded`, the public clause of `record_at`, and with it `OneRecord` of
+// the promises go by the place of a byte.
+ghost use Rattle.std.specs.Prelude.{◌<◌, ◌^◌, ◌≡◌, SomeIff, cond, drop, length};
 ghost use Rattle.std.specs.List.{prefix_len};
 ghost use Rattle.std.specs.Char.{is_ascii_digit};
 ghost use Rattle.lists.specs.Places.{Every};
 ghost use Rattle.text.specs.Format.{Digit, value};
-ghost use Rattle.text.specs.Reading.{number_at, followed, field_at, cell_at, line_end, after_line, Recorded};
+ghost use Rattle.text.specs.Reading.{number_at, followed, field_at, line_end, after_line, Recorded};
 
 // How many digits a text begins with.
 fn leading_digits(text: &[u8]) -> usize
@@ -61,15 +62,16 @@ fn field_at(text: &[u8], at: usize) -> Option<(u32, usize)>
     }
 }
 
-// A field that `left` more follow in its record: with the comma behind it, if it is not the last.
-fn cell_at(text: &[u8], at: usize, left: usize) -> Option<(u32, usize)>
-    ensures { result ≡ cell_at left text.now at }
+// A field of a record: with the comma behind it, if it is not the last.
+fn cell_at(text: &[u8], at: usize, last: bool) -> Option<(u32, usize)>
+    ensures { result ≡ cond last (field_at text.now at) (followed text.now 44 (field_at text.now at)) }
 {
     let field = field_at(text, at);
-    if left == 0 {
-        return field;
+    if last {
+        field
+    } else {
+        followed(text, b',', field)
     }
-    followed(text, b',', field)
 }
 
 // Where the next line begins, if a line ends at `at`.
@@ -77,12 +79,12 @@ fn line_end(text: &[u8], at: usize) -> Option<usize>
     ensures { result ≡ line_end text.now at }
 {
     if text.len() <= at {
-        return Some(at);
+        Some(at)
+    } else if text[at..].starts_with(b"\r\n") {
+        Some(at + 2)
+    } else {
+        None
     }
-    if text[at..].starts_with(b"\r\n") {
-        return Some(at + 2);
-    }
-    None
 }
 
 // A record: as many fields as `out` has places, parted by commas, and the line's end. It answers where the next line
@@ -93,7 +95,7 @@ pub fn record_at(text: &[u8], at: usize, out: &mut [u32]) -> Option<usize>
 {
     let mut i = at;
     for k in 0..out.len() {
-        let (value, next) = cell_at(text, i, out.len() - k - 1)?;
+        let (value, next) = cell_at(text, i, k + 1 == out.len())?;
         out[k] = value;
         i = next;
     }

@@ -2,17 +2,18 @@
 // place behind what it wrote.
 // Kept so: list and place are two parameters; a struct that holds the lent list needs one more clause per function,
 // that it still is the caller's.
-ghost use Rattle.std.specs.Prelude.{[], ◌∷◌};
-ghost use Rattle.text.specs.Writing.{figures, cell_text, line_text, Wrote};
+ghost use Rattle.std.specs.Prelude.{cond, [], ◌∷◌, ◌++◌};
+ghost use Rattle.text.specs.Writing.{figures, decimal, crlf, line_text, Wrote};
 
 fn put_byte(out: &mut [u8], at: usize, b: u8) -> usize
     ensures { Wrote out.old at (b ∷ []) out.new result }
 {
     if at < out.len() {
         out[at] = b;
-        return at + 1;
+        at + 1
+    } else {
+        at
     }
-    at
 }
 
 // A word.
@@ -32,24 +33,25 @@ fn put_figures(out: &mut [u8], at: usize, x: u32, places: usize) -> usize
     ensures { Wrote out.old at (figures places x) out.new result }
 {
     if places == 0 {
-        return at;
+        at
+    } else if x < 10 {
+        put_byte(out, at, b'0' + (x as u8))
+    } else {
+        let end = put_figures(out, at, x / 10, places - 1);
+        put_byte(out, end, b'0' + ((x % 10) as u8))
     }
-    if x < 10 {
-        return put_byte(out, at, b'0' + (x as u8));
-    }
-    let end = put_figures(out, at, x / 10, places - 1);
-    put_byte(out, end, b'0' + ((x % 10) as u8))
 }
 
-// A field that `left` more follow in its record: with the comma behind it, or the line's end if it is the last.
-fn put_cell(out: &mut [u8], at: usize, x: u32, left: usize) -> usize
-    ensures { Wrote out.old at (cell_text left x) out.new result }
+// A field of a record: with the comma behind it, or the line's end if it is the last.
+fn put_cell(out: &mut [u8], at: usize, x: u32, last: bool) -> usize
+    ensures { Wrote out.old at (decimal x ++ cond last crlf (44 ∷ [])) out.new result }
 {
     let end = put_figures(out, at, x, 10);
-    if left == 0 {
-        return put_text(out, end, b"\r\n");
+    if last {
+        put_text(out, end, b"\r\n")
+    } else {
+        put_byte(out, end, b',')
     }
-    put_byte(out, end, b',')
 }
 
 // The line of a record.
@@ -58,7 +60,7 @@ pub fn put_record(out: &mut [u8], at: usize, values: &[u32]) -> usize
 {
     let mut end = at;
     for (i, x) in values.iter().enumerate() {
-        end = put_cell(out, end, *x, values.len() - i - 1);
+        end = put_cell(out, end, *x, i + 1 == values.len());
     }
     end
 }

@@ -10,7 +10,7 @@ mod reading;
 
 use std::io::{self, Read};
 
-// Text beyond two mebibytes is not read.
+// Text beyond two mebibytes is not read. `read_to_end` tries a read again that a signal cut short.
 fn main(rt: HostRuntime) -> io::Result<()> {
     let mut text = Vec::new(rt.alloc());
     rt.stdin().take(2_097_152).read_to_end(&mut text)?;

@@ -13,6 +13,6 @@ unfolding line_end
 returns-then-starts_with c =
     rw (lt-leb _ _ c.if-text-at.false, ← crlf_std c.args.text.now c.args.at, ← c.starts_with.ensures.value, c.if-starts_with.true)
 
-pub returns : goal.returns
+pub returns-else-starts_with : goal.returns-else-starts_with
 unfolding line_end
-returns c = rw (lt-leb _ _ c.if-text-at.false, ← crlf_std c.args.text.now c.args.at, ← c.starts_with.ensures.value, c.if-starts_with.false)
+returns-else-starts_with c = rw (lt-leb _ _ c.if-text-at.false, ← crlf_std c.args.text.now c.args.at, ← c.starts_with.ensures.value, c.if-starts_with.false)

@@ -9,5 +9,5 @@ returns-then-places-eq0 t c = digit_none _ _ _ _ c.if-places-eq0.true
 pub returns-then-x-lt10 : goal.returns-then-x-lt10
 returns-then-x-lt10 t c = digit_last _ _ (omega arith) c.if-x-lt10.true c.put_byte.ensures
 
-pub returns : goal.returns
-returns t c = digit_more _ _ (omega arith) c.if-x-lt10.false c.put_figures-end.ensures c.put_byte-2.ensures
+pub returns-else-x-lt10 : goal.returns-else-x-lt10
+returns-else-x-lt10 t c = digit_more _ _ (omega arith) c.if-x-lt10.false c.put_figures-end.ensures c.put_byte-else-x-lt10.ensures
