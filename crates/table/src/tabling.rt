@@ -5,7 +5,7 @@ ghost use Rattle.text.specs.Writing.{Wrote};
 ghost use Rattle.table.specs.Answers.{tabled};
 
 use crate::records::Records;
-use crate::writing;
+use crate::writing::{self, Accepted};
 use edf::Totals;
 use subjobs::Set;
 
@@ -28,7 +28,12 @@ fn put_set(set: &Set<'_>, local: &mut [u32], finishes: &mut [u32], out: &mut [u8
                 Totals { busy: 0, idle: 0 },
             );
             let at = text::writing::put_text(out, 0, b"job,subtask,deadline,finish,slack\r\n");
-            writing::put_lines(set, local, finishes, out, at)
+            let accepted = Accepted {
+                set: *set,
+                local,
+                finishes,
+            };
+            accepted.put_lines(out, at)
         }
     }
 }

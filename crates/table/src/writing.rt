@@ -11,34 +11,44 @@ ghost use Rattle.table.specs.Stores.{numbers_at, PrintableAt, PrintedLine};
 
 use subjobs::{Reason, Set, Told};
 
-// The numbers of the line of place i: job, subtask, local deadline, finish, slack.
-fn line_at(set: &Set<'_>, local: &[u32], finishes: &[u32], i: usize) -> [u32; 5]
-    requires { PrintableAt (subjobs_of set.now) local.now finishes.now i }
-    ensures { result ≡ numbers_at (subjobs_of set.now) local.now finishes.now i }
-{
-    let slack = set.deadlines[i] - set.criticals[i] - local[i];
-    [set.jobs[i], set.subtasks[i], local[i], finishes[i], slack]
+// An accepted set with its local deadlines and its finishes.
+#[derive(Clone, Copy)]
+pub(crate) struct Accepted<'a> {
+    pub(crate) set: Set<'a>,
+    pub(crate) local: &'a [u32],
+    pub(crate) finishes: &'a [u32],
+    ghost printable: { (i : ℕ) → i < size (subjobs_of set) → PrintableAt (subjobs_of set) local.now finishes.now i },
 }
 
-// One line per sub-job, in input order.
-pub(crate) fn put_lines(
-    set: &Set<'_>,
-    local: &[u32],
-    finishes: &[u32],
-    out: &mut [u8],
-    at: usize,
-) -> usize
-    requires { (i : ℕ) → i < size (subjobs_of set.now) → PrintableAt (subjobs_of set.now) local.now finishes.now i }
-    ensures { Wrote out.old at
-        (joined (line_at (subjobs_of set.now) local.now finishes.now) (places (size (subjobs_of set.now))))
-        out.new result }
-{
-    let mut end = at;
-    for i in 0..set.jobs.len() {
-        let line = line_at(set, local, finishes, i);
-        end = text::writing::put_record(out, end, &line);
+impl Accepted<'_> {
+    // The numbers of the line of place i: job, subtask, local deadline, finish, slack.
+    fn line_at(&self, i: usize) -> [u32; 5]
+        requires { i < size (subjobs_of self.now.set) }
+        ensures { result ≡ numbers_at (subjobs_of self.now.set) self.now.local.now self.now.finishes.now i }
+    {
+        let set = self.set;
+        let slack = set.deadlines[i] - set.criticals[i] - self.local[i];
+        [
+            set.jobs[i],
+            set.subtasks[i],
+            self.local[i],
+            self.finishes[i],
+            slack,
+        ]
     }
-    end
+
+    // One line per sub-job, in input order.
+    pub(crate) fn put_lines(&self, out: &mut [u8], at: usize) -> usize
+        ensures { let s = subjobs_of self.now.set in
+            Wrote out.old at (joined (line_at s self.now.local.now self.now.finishes.now) (places (size s)))
+            out.new result }
+    {
+        let mut end = at;
+        for i in 0..self.set.jobs.len() {
+            end = text::writing::put_record(out, end, &self.line_at(i));
+        }
+        end
+    }
 }
 
 // The line that a refusal names.

@@ -13,10 +13,13 @@ pub returns-in-Err : goal.returns-in-Err
 returns-in-Err c =
     rw (refused_text (subjobs_of c.args.set.now) _ c.requires.deadlines (sym c.in-Err.ensures.0)) c.put_refusal.ensures
 
-pub put_lines-requires : goal.put_lines-requires
-put_lines-requires c =
-    rw (c.simulate.ensures.writes, c.assign.ensures.1)
-    (accepted_printable (subjobs_of c.args.set.now) _ c.requires.deadlines _ c.requires.finishes (sym c.in-Ok.ensures.0))
+pub invariant_of-accepted : goal.invariant_of-accepted
+invariant_of-accepted c =
+    record {
+      printable =
+          rw (c.simulate.ensures.writes, c.assign.ensures.1)
+          (accepted_printable (subjobs_of c.args.set.now) _ c.requires.deadlines _ c.requires.finishes (sym c.in-Ok.ensures.0));
+    }
 
 pub returns-in-Ok : goal.returns-in-Ok
 returns-in-Ok c =
