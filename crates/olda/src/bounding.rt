@@ -16,6 +16,7 @@ pub(crate) fn withheld(criticals: &[u32], place: usize) -> u32
 }
 
 // The upper bounds of all sub-jobs, raised.
+// Kept so: a loop over `iter_mut().zip` has no name for `bounds`, of which the invariant speaks.
 pub(crate) fn raise(deadlines: &[u32], criticals: &[u32], bounds: &mut [u32])
     requires { Raising deadlines.now criticals.now bounds.old }
     ensures { Raised (limits deadlines.now criticals.now) (length deadlines.now) bounds.new }
@@ -26,6 +27,7 @@ pub(crate) fn raise(deadlines: &[u32], criticals: &[u32], bounds: &mut [u32])
 }
 
 // How much the first is above the second, signed.
+// Kept so: `i64::from` takes no u64, and `i64::try_from` would need a branch for what `requires` rules out.
 pub(crate) fn difference(a: u32, b: u64) -> i64
     requires { b < 8589934592 }
     ensures { result ≡ sub_ℕ a b }

@@ -17,6 +17,8 @@ fn behind(set: &Set<'_>, i: usize, j: usize) -> bool
 }
 
 // Where the base sub-job stands among the sub-jobs of the base subset, which are given by their places.
+// Kept so: `max_by` and `max_by_key` of std give the last of equals, the rules' `choose` the first, and `max_by` would read the
+// best bound so far again at each place.
 pub(crate) fn base_job(order: &[u32], bounds: &[u32], set: &Set<'_>) -> usize
     requires { Choosing order.now bounds.now set.now.jobs.now set.now.subtasks.now }
     ensures { Chosen order.now bounds.now set.now.jobs.now set.now.subtasks.now result }

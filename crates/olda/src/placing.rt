@@ -40,6 +40,7 @@ fn take_out(order: &mut [u32], ends: &mut [u32], k: usize, execution: u32)
 
 // The steps over the sub-jobs of `order`, whose places stand there in release order. The deadlines go into `local`, each
 // at its place.
+// Kept so: a bare set; of the ten facts in `Placing` the `fit` of a `FitSet` would give three, and the loop holds the others.
 pub(crate) fn place_all(
     set: &Set<'_>,
     bounds: &[u32],
