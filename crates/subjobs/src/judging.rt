@@ -46,6 +46,7 @@ impl OneLengthSet<'_> {
     }
 
     // Whether the pair at a place stands at an earlier place too.
+    // Kept so: tried: `zip` and `any` over the earlier places miss the bar of speed (173435 -> 179578 at 128).
     fn seen_earlier(&self, place: usize) -> bool
         requires { place < size (subjobs_of self.now.set) }
         ensures { let s = subjobs_of self.now.set in result ≡ seen_earlier (job s) (subtask s) place }
