@@ -46,7 +46,7 @@ fn code(outcome: Result<(), Reason>) -> u32
 fn fitting(records: &[u8], results: usize) -> bool
     ensures { result ≡ fitting records.now results }
 {
-    (records.len() % 24 == 0) & (results == 4 * (records.len() / 24))
+    records.len() % 24 == 0 && results == 4 * (records.len() / 24)
 }
 
 // The assignment of a set, with a list lent for its results, into bytes. Both sizes of rooms call it, so that there is one
@@ -144,7 +144,7 @@ pub fn charoktan_check(records: &[u8], deadlines: &[u8]) -> u32
 fn fitting_graph(executions: &[u8], arcs: &[u8], results: usize) -> bool
     ensures { result ≡ fitting_graph executions.now arcs.now results }
 {
-    (executions.len() % 4 == 0) & (arcs.len() % 12 == 0) & (results == executions.len())
+    executions.len() % 4 == 0 && arcs.len() % 12 == 0 && results == executions.len()
 }
 
 // Critical times of whole executions and arcs, with room for N sub-jobs and M arcs.

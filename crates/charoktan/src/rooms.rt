@@ -30,10 +30,10 @@ fn fitting(records: &[u8], lengths: &[u8], deadlines: usize, numbers: usize, pla
     ensures { result ≡ fitting_room records.now lengths.now deadlines numbers places }
 {
     crate::fitting(records, deadlines)
-        & (lengths.len() % 4 == 0)
-        & (numbers == lengths.len())
-        & (places == lengths.len())
-        & adds_up(lengths, records.len() / 24)
+        && lengths.len() % 4 == 0
+        && numbers == lengths.len()
+        && places == lengths.len()
+        && adds_up(lengths, records.len() / 24)
 }
 
 // One set: its stretch of the records and the middle of the deadlines are lent to the assignment.

@@ -96,9 +96,9 @@ fn fitting(sets: &Set<'_>, lengths: &[u32], results: usize, numbers: usize, plac
     ensures { result ≡ fitting (subjobs_of sets.now) lengths.now results numbers places }
 {
     sets.one_length(results == sets.jobs.len())
-        & (numbers == lengths.len())
-        & (places == lengths.len())
-        & adds_up(lengths, sets.jobs.len())
+        && numbers == lengths.len()
+        && places == lengths.len()
+        && adds_up(lengths, sets.jobs.len())
 }
 
 // Gives each sub-job of every set its local deadline, as one call of `olda::assign` per set would. A set that is refused
