@@ -93,6 +93,8 @@ pub(crate) fn put(out: &mut [u8], at: usize, v: u32)
 }
 
 // The bytes of all numbers.
+// Kept so: places are counted, here and in `assign_each` of the room, since of the slice behind `as_chunks_mut` std says
+// nothing, once it is written.
 pub(crate) fn put_all(values: &[u32], out: &mut [u8])
     requires { length out.old ≡ 4 * length values.now }
     ensures { out.new ≡ encoded values.now }

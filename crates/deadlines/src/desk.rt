@@ -3,6 +3,12 @@ ghost use Rattle.std.specs.Prelude.{◌≤◌, IfOk, length};
 
 use std::io::{self, Read};
 
+// Room for the longest text that is a table, and for one byte more, by which a longer one is known.
+const TEXT: usize = 16_384 + 1;
+
+// Room for every answer, as `table::table` asks for it.
+const ANSWER: usize = 7_203;
+
 // Reads standard input to its end or until the room is full, and answers how many bytes came; or the error, if a read
 // failed.
 // Kept so: std's `read_to_end` says nothing of what stands in the room after an error, and the beginning of a table must not
@@ -24,12 +30,12 @@ fn fill(rt: &HostRuntime, room: &mut [u8]) -> io::Result<usize>
 
 // Reads standard input to its end or to one byte over 16,384, and prints the answer to that text. If it cannot be read
 // there is no answer, and a line on standard error says so.
-// Kept so: `table::table` writes to an array of this length, and `fill` to a room.
+// Kept so: two arrays, since `table::table` writes to one and `fill` to a room.
 pub(crate) fn serve(rt: &HostRuntime) -> io::Result<()> {
-    let mut text = [0u8; 16385];
+    let mut text = [0u8; TEXT];
     match fill(rt, &mut text) {
         Ok(n) => {
-            let mut out = [0u8; 7203];
+            let mut out = [0u8; ANSWER];
             let k = table::table(&text[..n], &mut out);
             rt.write_all(&out[..k])
         }

@@ -18,6 +18,9 @@ const ROOM_PLACES: usize = 4_200;
 // The same of a room's sets.
 const ROOM_SETS: usize = 48;
 
+// Room for every answer of a table, as `table::table` asks for it.
+const ANSWER: usize = 7_203;
+
 // The entry that a case calls.
 #[derive(Clone, Copy, Debug, PartialEq, Eq)]
 enum Kind {
@@ -120,8 +123,8 @@ fn table(rt: &HostRuntime, reader: &mut Reader<'_>) -> io::Result<()> {
     let Some(text) = reader.text() else {
         return Ok(());
     };
-    // Kept so: `table::table` writes to an array of this length.
-    let mut out = [0u8; 7203];
+    // Kept so: an array, since `table::table` writes to one.
+    let mut out = [0u8; ANSWER];
     let length = table::table(text, &mut out);
     println!(rt; "{length}")?;
     rt.write_all(&out[..length])?;
