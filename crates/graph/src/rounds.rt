@@ -10,9 +10,9 @@ use subjobs::Reason;
 
 // Raises the start of an arc to what the arc asks, which is its cost and the value of the place that it leads to. Whether
 // it rose.
-// Kept so: tried a struct of graph and values: rattle refuses `Attained` as its invariant, since it gives each value's path,
-// and an invariant may say no more than that there is one. Without it the struct takes no clause away, and adds eight: that
-// the graph stays, for raise, round, settle, guess, take and peel, and that it is the linked one, for take and peel.
+// Kept so: a struct of graph and values, tried, is no plainer. Its invariant could only be `∥ Attained ∥₁`, since `Attained`
+// gives each value's path, so a bound stays in every clause; and eight facts come to them: that the graph stays, for raise,
+// round, settle, guess, take and peel, and that it is the linked one, for take and peel.
 pub(crate) fn raise(sound: &SoundGraph, found: &mut [u64; 128], arc: usize) -> bool
     requires { (arc < arcs (graph_of sound.now.graph)) × Values (graph_of sound.now.graph) 300 found.old }
     ensures { Raised (graph_of sound.now.graph) arc found.old found.new result }
