@@ -17,8 +17,8 @@ mod bytes;
 mod rooms;
 
 // The number of a refusal and its place; both are 0 if there is none.
-// Kept so: `Small` is a clause of every function here that hands on a reason: a type of the door's
-// own that carries it would have to be made of std's `Result` and taken apart again at each `?`.
+// Kept so: `Small` is a clause of every function here that hands on a reason. A type of the door's own that carries it would
+// have to be made of std's `Result`, and taken apart again, at each `?`.
 fn told(outcome: Result<(), Reason>) -> (u32, u32)
     requires { Small outcome }
     ensures { (result.0 ≡ told outcome % 65_536) × (result.1 ≡ told outcome / 65_536) }

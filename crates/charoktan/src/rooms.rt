@@ -1,4 +1,4 @@
-// A room at the door: its sets one after another, each by `assign` on its own stretch of the bytes.
+// A room at the door: its sets one after another, each by the door's own `assign` on its stretch of the bytes.
 // Kept so: `adds_up`, `fitting`, `assign_each` and `assign` have twins in `room`, on lists. One walk for both takes a crate
 // below them and closures, and is longer.
 ghost use Rattle.std.specs.Prelude.{◌+◌, ◌*◌, ◌/◌, ◌<◌, ◌≡◌, eqb, length, get_or};
