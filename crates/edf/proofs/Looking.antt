@@ -2,8 +2,7 @@
 --
 --   onward lt q xs       == the choice among xs after q was found
 --   Looking lt U n q i   == after i of n places q is what was found of those that U picks
---   Gathering f U n m i  == m is the greatest f of the first i of n places that U picks
-use Prim.Native.Nat.{ℕ, ◌+◌, ◌-◌, ◌≤◌, ◌<◌, min, max}
+use Prim.Native.Nat.{ℕ, zero, suc, ◌+◌, ◌-◌, ◌≤◌, ◌<◌, min, max}
 use mathlib.Core.Bool.{Bool, true, false, cond}
 use mathlib.Core.List.{List, [], ◌∷◌, map, Memᴰ}
 use mathlib.Core.Option as found
@@ -16,7 +15,7 @@ use lib.Dec.{ltb}
 use lib.ListN.{length, get_or}
 use lib.Seq.{take_all}
 use Rattle.std.specs.List as std
-use Rattle.std.specs.Prelude.{Option, Some, None, IfSome}
+use Rattle.std.specs.Prelude.{Option, Some, None, IfSome, unwrap_or}
 use Rattle.lists.specs.Places.{from, places, filter, least, greatest}
 use Rattle.lists.specs.Order.{ahead, choose, given}
 use Rattle.lists.proofs.Cases.{split, test, tests}
@@ -116,19 +115,28 @@ released_later r xs t =
     let later : t < next_release r xs t = omega (tests, w.2) in
     rw (ne_eqb (next_release r xs t) 0 (λ z. omega arith)) later)
 
--- At place i of n, the greatest so far or among those left is the greatest of all.
-pub record Gathering (f : ℕ → ℕ) (U : ℕ → Bool) (n m i : ℕ) : Type 0 where
-  pub whole : max m (greatest f (filter U (from i (n - i)))) ≡ greatest f (filter U (places n))
+-- The greatest f of the places that U picks, 0 if it picks none.
+range_places : (i n : ℕ) → std.range_with_len i n ≡ from i n
+unfolding from
+range_places i zero = refl
+range_places i (suc n) = rw (add-one, range_places (suc i) n)
 
-module _ {f : ℕ → ℕ} {U : ℕ → Bool} {n m i : ℕ} (G : Gathering f U n m i) where
-  pub gather_skip : i < n → U i ≡ false → Gathering f U n m (i + 1)
-  unfolding filter
-  gather_skip h u = record { whole = rw (from_step n i h, u) at G.whole }
+filter_same : (U : ℕ → Bool) (xs : List ℕ) → std.filter U xs ≡ filter U xs
+unfolding filter
+filter_same U [] = refl
+filter_same U (x ∷ xs) = test (U x) (λ u. rw (u, filter_same U xs)) (λ u. rw (u, filter_same U xs))
 
-  pub gather_on : i < n → U i ≡ true → Gathering f U n (max m (f i)) (i + 1)
-  unfolding filter greatest
-  gather_on h u = let e = rw (from_step n i h, u) at G.whole in record { whole = omega (arith, e) }
+fold_greatest : (f : ℕ → ℕ) (a : ℕ) (xs : List ℕ) → std.fold max a (map f xs) ≡ max a (greatest f xs)
+unfolding greatest
+fold_greatest f a [] = omega arith
+fold_greatest f a (x ∷ xs) = let e = fold_greatest f (max a (f x)) xs in omega arith
 
-  pub gather_done : n ≤ i → m ≡ greatest f (filter U (places n))
-  unfolding greatest
-  gather_done h = let e = rw (from_done n i h, filter-nil U) at G.whole in omega (arith, e)
+reduce_greatest : (f : ℕ → ℕ) (xs : List ℕ) → unwrap_or (std.reduce max (map f xs)) 0 ≡ greatest f xs
+unfolding greatest
+reduce_greatest f [] = refl
+reduce_greatest f (x ∷ xs) = fold_greatest f (f x) xs
+
+pub greatest_picked :
+    (f : ℕ → ℕ) (U : ℕ → Bool) (n : ℕ)
+    → unwrap_or (std.reduce max (map f (std.filter U (std.range_with_len 0 n)))) 0 ≡ greatest f (filter U (places n))
+greatest_picked f U n = rw (range_places 0 n, filter_same U (places n)) (reduce_greatest f (filter U (places n)))

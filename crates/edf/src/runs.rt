@@ -44,13 +44,11 @@ impl Work<'_> {
     fn end(&self, finish: &[u32; 128]) -> u32
         ensures { result ≡ end_in (load_of self.now) finish.now }
     {
-        let mut end: u32 = 0;
-        for place in 0..self.fit.set.jobs.len() {
-            if 0 < self.owed(place) {
-                end = end.max(finish[place]);
-            }
-        }
-        end
+        (0..self.fit.set.jobs.len())
+            .filter(|place| 0 < self.owed(*place))
+            .map(|place| finish[place])
+            .max()
+            .unwrap_or(0)
     }
 
     // The end of the last tick served to a place, or its release if it is owed nothing.
