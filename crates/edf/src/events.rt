@@ -45,6 +45,8 @@ impl Work<'_> {
 
     // The place to serve in tick t: of those active the one that comes first.
     // A heap may stand here one day: callers know it by `to_serve` alone.
+    // Kept so: tried: with `filter` and `reduce`, or `min_by_key`, the proof did not close at `reduce-requires-clause-callable`
+    // (that all that comes out of the filter is below the number of places).
     pub(crate) fn to_serve(&self, served: &[u32; 128], t: u32) -> Option<usize>
         ensures { result
             ≡ chosen (size_of self.now) (to_serve (load_of self.now) (size_of self.now) t served.now) }

@@ -6,9 +6,12 @@ use native.Mathlib.Numerals.{add-one}
 use native.Mathlib.Omega.{arith}
 use Rattle.lists.proofs.Count.{left_more, left_none}
 use Rattle.subjobs.specs.Judging.{Judgement, passed}
-use Rattle.std.specs.Prelude.{Err}
+use Rattle.std.specs.Prelude.{Err, Bool, not, Option, Some, None}
+use Rattle.std.specs.List.{find, range_with_len}
+use Rattle.std.specs.Option.{MatchOption, option_map_or}
+use Rattle.lists.proofs.Cases.{test}
 use Rattle.subjobs.specs.declared.Reason.{Reason}
-use Rattle.subjobs.specs.Judging.{or_else, refusal_from, first_refusal}
+use Rattle.subjobs.specs.Judging.{unless, or_else, refusal_from, first_refusal}
 
 module _ (J : ℕ → Judgement) (n i : ℕ) where
   pub refusal_step : i < n → refusal_from J (n - i) i ≡ or_else (J i) (refusal_from J (n - (i + 1)) (i + 1))
@@ -50,3 +53,16 @@ pub refusal_second : (J : ℕ → Judgement) (n : ℕ) → J 0 ≡ passed → re
 unfolding refusal_from
 refusal_second J zero e = refl
 refusal_second J (suc n) e = let z : suc n - 1 ≡ n = omega arith in rw (z, e)
+
+-- A search by `find`: what it finds is refused.
+pub refusal_found :
+    (J : ℕ → Judgement) (T : ℕ → Bool) (w : ℕ → Reason) → ((k : ℕ) → J k ≡ unless (not (T k)) (w k))
+    → (n i : ℕ) → refusal_from J n i ≡ option_map_or (λ k. Err (w k)) (find T (range_with_len i n)) passed
+unfolding refusal_from
+refusal_found J T w same zero i = refl
+refusal_found J T w same (suc n) i =
+    test (T i) (λ t. rw (same i, t)) (λ t. rw (same i, t, add-one, refusal_found J T w same n (suc i)))
+
+pub matched : (w : ℕ → Reason) (o : Option ℕ) (r : Judgement) → MatchOption o (r ≡ passed) (λ k. r ≡ Err (w k)) → r ≡ option_map_or (λ k. Err (w k)) o passed
+matched w None r h = h
+matched w (Some k) r h = h

@@ -65,11 +65,8 @@ impl OneLengthSet<'_> {
     pub(crate) fn pairs(&self) -> Result<(), Reason>
         ensures { let s = subjobs_of self.now.set in result ≡ pairs (job s) (subtask s) (size s) }
     {
-        for place in 1..self.set.jobs.len() {
-            if self.seen_earlier(place) {
-                return Err(Reason::Pair { place });
-            }
-        }
-        Ok(())
+        (1..self.set.jobs.len())
+            .find(|place| self.seen_earlier(*place))
+            .map_or(Ok(()), |place| Err(Reason::Pair { place }))
     }
 }
