@@ -26,6 +26,7 @@ fn meets(fit: &FitSet<'_>, place: usize, d: u32) -> bool
 }
 
 // The smallest place that fails (6).
+// Kept so: tried: `find` here and in `late` misses the bar of speed (1692 -> 1731 at 4).
 pub(crate) fn six(fit: &FitSet<'_>, proposed: &[u32]) -> Result<(), Reason>
     requires { length proposed.now ≡ size (subjobs_of fit.now.set) }
     ensures { result ≡ six (subjobs_of fit.now.set) proposed.now }
@@ -39,7 +40,8 @@ pub(crate) fn six(fit: &FitSet<'_>, proposed: &[u32]) -> Result<(), Reason>
 }
 
 // The smallest place that finishes after its proposed deadline.
-// Kept so: `zip` with `position` wants a function more (13 lines -> 21) and two laws of what the search found.
+// Kept so: tried: `find` here and in `six` misses the bar of speed (1692 -> 1731 at 4); `zip` with `position` wants a
+// function more (13 lines -> 21) and two laws of what the search found.
 fn late(finishes: &[u32], proposed: &[u32]) -> Result<(), Reason>
     requires { length proposed.now ≡ length finishes.now }
     ensures { result ≡ first_refusal
