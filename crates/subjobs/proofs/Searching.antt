@@ -63,6 +63,7 @@ refusal_found J T w same zero i = refl
 refusal_found J T w same (suc n) i =
     test (T i) (λ t. rw (same i, t)) (λ t. rw (same i, t, add-one, refusal_found J T w same n (suc i)))
 
+-- What `map_or` makes of it.
 pub matched : (w : ℕ → Reason) (o : Option ℕ) (r : Judgement) → MatchOption o (r ≡ passed) (λ k. r ≡ Err (w k)) → r ≡ option_map_or (λ k. Err (w k)) o passed
 matched w None r h = h
 matched w (Some k) r h = h

@@ -35,6 +35,7 @@ impl OneLengthSet<'_> {
     }
 
     // The smallest place with a field out of range.
+    // Kept so: `range_at` gives the reason and `?` hands it on; a `find` gives a place, whose field is then sought again.
     pub(crate) fn ranges(&self) -> Result<(), Reason>
         ensures { let s = subjobs_of self.now.set in
             result ≡ ranges (release s) (execution s) (deadline s) (critical s) (size s) }
