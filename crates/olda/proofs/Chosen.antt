@@ -57,7 +57,7 @@ pub record Topped (xs us js ks : List ℕ) (k top i : ℕ) : Type 0 where
   pub bound : top ≡ at us (at xs k)
   pub best : Ahead (reversed (lower_by us js ks)) xs (at xs k) i
 
-pub topped_one : {xs us js ks : List ℕ} → Choosing xs us js ks → Topped xs us js ks 0 (at us (at xs 0)) 1
+pub topped_one : {xs us js ks : List ℕ} {n : ℕ} → Choosing xs us n → Topped xs us js ks 0 (at us (at xs 0)) 1
 topped_one {xs} {us} {js} {ks} a =
     record { inside = a.some; bound = refl; best = ahead_first (reversed (lower_by us js ks)) xs a.some }
 

@@ -62,9 +62,6 @@ module _ {s : Subjobs} {others : Bool} (f : Fit s others) (room : ℕ) (enough :
         let l = f.lengths.releases in
         let n = length s.releases in
         record {
-          size = omega (arith, f.few);
-          jobs = omega arith;
-          subtasks = omega (arith, f.lengths.subtasks);
           bounds = omega arith;
           local = omega (arith, length-replicate {A = ℕ} room 0);
           order = omega arith;

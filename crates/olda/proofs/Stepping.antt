@@ -25,7 +25,7 @@ use Rattle.subjobs.specs.Sets.{Subjobs}
 use Rattle.subjobs.specs.declared.Reason.TheVariants.{Late}
 use Rattle.subjobs.specs.Terms.{Terms}
 use Rattle.rules.specs.Method.{stuck, best, base, steps}
-use Rattle.olda.specs.Parts.{at, rest, completes, completions, raise, lower_by, raised, Ranged, Tail, Greatest, Known, Choosing, Chosen, Leaving, Left, Placing, stepped, Placed}
+use Rattle.olda.specs.Parts.{at, rest, completes, completions, raise, lower_by, raised, Ranged, Tail, Greatest, Choosing, Chosen, Leaving, Left, Placing, stepped, Placed}
 use Rattle.olda.proofs.Adding.{tail_most, completions-length, completions-at}
 use Rattle.olda.proofs.Held.{held_enough, held_rest, greatest_tail}
 use Rattle.olda.proofs.Shifts.{without_at}
@@ -112,19 +112,12 @@ module _ {X : Subjobs} {us old kept : List ℕ} {all : ℕ} {os es ls : List ℕ
     part : take (n - k) (drop k os) ≡ drop k (take n os)
     part = part_within os n k (omega (arith, base_inside))
 
-    known : (p : ℕ) → Ranged X.releases X.executions p → Known us X.jobs X.subtasks p
-    known p q =
-        record {
-          bound = omega (arith, q.inside, s.asked.bounds);
-          job = omega (arith, q.inside, s.asked.jobs);
-          subtask = omega (arith, q.inside, s.asked.subtasks);
-        }
-
-    pub base_choosing : Choosing (take (n - k) (drop k os)) us X.jobs X.subtasks
+    pub base_choosing : Choosing (take (n - k) (drop k os)) us (length X.releases)
     base_choosing =
         rw part record {
           some = tail.some;
-          each = every_more (Ranged X.releases X.executions) (Known us X.jobs X.subtasks) known (drop k (take n os)) tail.each;
+          bounds = s.asked.bounds;
+          each = every_more (Ranged X.releases X.executions) (λ p. p < length X.releases) (λ p q. q.inside) (drop k (take n os)) tail.each;
         }
 
     -- The base sub-job stands at k + j, and its place is p.
@@ -211,11 +204,8 @@ module _ {X : Subjobs} {us old kept : List ℕ} {all : ℕ} {os es ls : List ℕ
           in
           record {
             asked = record {
-              jobs = s.asked.jobs;
-              subtasks = s.asked.subtasks;
               bounds = s.asked.bounds;
               local = simp length-set s.asked.local;
-              size = s.asked.size;
               order = omega (arith, ap length order, length-take (n - 1) (os' ++ drop n os), one, long);
               ends = omega (arith, ap length held, ap length order, length-take (n - 1) (es' ++ drop n es), completions-length (at X.releases) (at X.executions) (take (n - 1) (os' ++ drop n os)), one, long);
               few = omega (arith, s.asked.few);

@@ -121,16 +121,11 @@ pub record Greatest (ns : List ℕ) (k : ℕ) : Type 0 where
   pub most : (j : ℕ) → j < length ns → at ns j ≤ at ns k
   pub latest : (j : ℕ) → k < j → j < length ns → at ns j < at ns k
 
--- A place that has a bound, a job and a subtask.
-pub record Known (us js ks : List ℕ) (p : ℕ) : Type 0 where
-  pub bound : p < length us
-  pub job : p < length js
-  pub subtask : p < length ks
-
--- The base sub-job is looked for among the places xs of the base subset, and stands at k of them.
-pub record Choosing (xs us js ks : List ℕ) : Type 0 where
+-- The base sub-job is looked for among the places xs of the base subset, of a set of n, and stands at k of them.
+pub record Choosing (xs us : List ℕ) (n : ℕ) : Type 0 where
   pub some : 0 < length xs
-  pub each : Every (Known us js ks) xs
+  pub bounds : n ≤ length us
+  pub each : Every (λ p. p < n) xs
 
 pub record Chosen (xs us js ks : List ℕ) (k : ℕ) : Type 0 where
   pub inside : k < length xs
@@ -148,9 +143,6 @@ pub record Left (os es : List ℕ) (k x : ℕ) (os' es' : List ℕ) : Type 0 whe
 
 -- The steps are taken on the first n places of os, with room for the completions and for the local deadlines.
 pub record Placing (s : Subjobs) (us os es ls : List ℕ) (n : ℕ) : Type 0 where
-  pub size : length s.releases ≤ 128
-  pub jobs : length s.releases ≤ length s.jobs
-  pub subtasks : length s.releases ≤ length s.subtasks
   pub bounds : length s.releases ≤ length us
   pub local : length s.releases ≤ length ls
   pub order : n ≤ length os

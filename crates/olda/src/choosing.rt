@@ -4,31 +4,31 @@ ghost use Rattle.std.specs.Prelude.{◌<◌, ◌≡◌, length};
 ghost use Rattle.subjobs.specs.Sets.{subjobs_of, job, subtask, by_pair};
 ghost use Rattle.olda.specs.Parts.{Choosing, Chosen};
 
-use subjobs::Set;
+use subjobs::FitSet;
 
 // Of two sub-jobs with equal bounds, whether the first stands behind the second: the smaller job, of equal jobs the smaller
 // subtask.
-fn behind(set: &Set<'_>, i: usize, j: usize) -> bool
-    requires first { (i < length set.now.jobs.now) × (i < length set.now.subtasks.now) }
-    requires second { (j < length set.now.jobs.now) × (j < length set.now.subtasks.now) }
-    ensures { result ≡ by_pair (job (subjobs_of set.now)) (subtask (subjobs_of set.now)) i j }
+fn behind(fit: &FitSet<'_>, i: usize, j: usize) -> bool
+    requires { (i < length fit.now.set.releases.now) × (j < length fit.now.set.releases.now) }
+    ensures { result ≡ by_pair (job (subjobs_of fit.now.set)) (subtask (subjobs_of fit.now.set)) i j }
 {
+    let set = &fit.set;
     (set.jobs[i], set.subtasks[i]) < (set.jobs[j], set.subtasks[j])
 }
 
 // Where the base sub-job stands among the sub-jobs of the base subset, which are given by their places.
 // Kept so: `max_by` and `max_by_key` of std give the last of equals, the rules' `choose` the first, and `max_by` would read the
 // best bound so far again at each place.
-pub(crate) fn base_job(order: &[u32], bounds: &[u32], set: &Set<'_>) -> usize
-    requires { Choosing order.now bounds.now set.now.jobs.now set.now.subtasks.now }
-    ensures { Chosen order.now bounds.now set.now.jobs.now set.now.subtasks.now result }
+pub(crate) fn base_job(order: &[u32], bounds: &[u32], fit: &FitSet<'_>) -> usize
+    requires { Choosing order.now bounds.now (length fit.now.set.releases.now) }
+    ensures { Chosen order.now bounds.now fit.now.set.jobs.now fit.now.set.subtasks.now result }
 {
     let mut at = 0;
     let mut top = bounds[order[0] as usize];
     for i in 1..order.len() {
         let place = order[i] as usize;
         let bound = bounds[place];
-        if top < bound || (top == bound && behind(set, order[at] as usize, place)) {
+        if top < bound || (top == bound && behind(fit, order[at] as usize, place)) {
             at = i;
             top = bound;
         }

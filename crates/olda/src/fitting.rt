@@ -25,7 +25,7 @@ fn place_in<const N: usize>(fit: &FitSet<'_>, out: &mut [u32]) -> Result<(), Rea
     raise(set.deadlines, set.criticals, &mut bounds);
     in_order(set.releases, &mut order);
     place_all(
-        set,
+        fit,
         &bounds,
         &mut order[..count],
         &mut ends[..count],

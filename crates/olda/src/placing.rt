@@ -6,7 +6,7 @@ ghost use Rattle.olda.specs.Parts.{at, rest, Leaving, Left, Placing, Placed};
 use crate::bounding::{RAISE, signed};
 use crate::choosing::base_job;
 use crate::tailing::{base_tail, completions};
-use subjobs::{Reason, Set};
+use subjobs::{FitSet, Reason};
 
 // Takes out what stands at k; the numbers behind it move down by one, and the last place is free.
 fn remove(a: &mut [u32], k: usize)
@@ -40,22 +40,22 @@ fn take_out(order: &mut [u32], ends: &mut [u32], k: usize, execution: u32)
 
 // The steps over the sub-jobs of `order`, whose places stand there in release order. The deadlines go into `local`, each
 // at its place.
-// Kept so: a bare set; of the ten facts in `Placing` the `fit` of a `FitSet` would give three, and the loop holds the others.
 pub(crate) fn place_all(
-    set: &Set<'_>,
+    fit: &FitSet<'_>,
     bounds: &[u32],
     order: &mut [u32],
     ends: &mut [u32],
     local: &mut [u32],
 ) -> Result<(), Reason>
-    requires { Placing (subjobs_of set.now) bounds.now order.old ends.old local.old (length order.old) }
-    ensures { Placed (subjobs_of set.now) bounds.now order.old local.old (length order.old) result local.new }
+    requires { Placing (subjobs_of fit.now.set) bounds.now order.old ends.old local.old (length order.old) }
+    ensures { Placed (subjobs_of fit.now.set) bounds.now order.old local.old (length order.old) result local.new }
 {
+    let set = &fit.set;
     completions(order, set.releases, set.executions, ends);
     for left in (1..=order.len()).rev() {
         let start = base_tail(&ends[..left]);
         let completion = ends[start];
-        let at = start + base_job(&order[start..left], bounds, set);
+        let at = start + base_job(&order[start..left], bounds, fit);
         let place = order[at] as usize;
         if bounds[place] < completion + RAISE {
             return Err(Reason::Late {

@@ -3,4 +3,4 @@ use Rattle.olda.proofs.Chosen.{Topped}
 use Rattle.olda.proofs.choosing.base_job.Given as goal
 
 abbrev pub invariant-loop-i : goal.invariant-loop-i
-invariant-loop-i l = Topped l.order l.bounds l.set.jobs.now l.set.subtasks.now l.at l.top l.i
+invariant-loop-i l = Topped l.order l.bounds l.fit.set.jobs.now l.fit.set.subtasks.now l.at l.top l.i
