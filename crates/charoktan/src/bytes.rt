@@ -32,7 +32,8 @@ pub(crate) fn column<'a, const WIDTH: usize>(
 }
 
 // Room for the six fields of N records.
-// Kept so: arrays of which a part is used, since the library has no heap.
+// Kept so: arrays of which a part is used, since the library has no heap; and beside `table`'s `Records`, since these are
+// read in one pass, with no count and no Model, and those record by record: one type for both would have all of either.
 #[derive(Drop)]
 pub(crate) struct Fields<const N: usize> {
     jobs: [u32; N],

@@ -81,8 +81,8 @@ fn assign_within<const N: usize>(records: &[u8], deadlines: &mut [u8]) -> Result
 }
 
 // The assignment, or why it is refused. Up to 8 sub-jobs work in rooms of their own, since these are cleared at each call.
-// Kept so: `check` and `critical` choose between two sizes alike. One function for all three would have to be handed a
-// function that itself has a size to be chosen.
+// Kept so: each entry's slices go on as C lends them; and `check` and `critical` choose between two sizes alike: one
+// function for all three would have to be handed a function that itself has a size to be chosen.
 fn assign(records: &[u8], deadlines: &mut [u8]) -> Result<(), Reason>
     ensures small { Small result }
     ensures assigns { AssignsBytes records.now deadlines.old (told result) deadlines.new }

@@ -7,7 +7,8 @@ use std::marker::Model;
 use subjobs::Set;
 
 // Room for 128 records, of which `count` are here.
-// Kept so: arrays and a count, since the library has no heap; the invariant ties them.
+// Kept so: arrays and a count, since the library has no heap; the invariant ties them. And beside the door's `Fields`, which
+// are read in one pass.
 #[derive(Drop)]
 pub(crate) struct Records {
     jobs: [u32; 128],
