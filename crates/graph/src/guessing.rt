@@ -5,7 +5,7 @@ ghost use Rattle.std.specs.Prelude.{ℕ, ◌≤◌, ◌<◌, ◌≡◌, length, 
 ghost use Rattle.graph.specs.Graphs.{graph_of, arcs};
 ghost use Rattle.graph.specs.Parts.{at, AtMost, turned, most, Values, Grown};
 
-use crate::lent::{Graph, SoundGraph};
+use crate::lent::SoundGraph;
 use crate::rounds::raise;
 
 // The places that wait, in the order in which they came. Those before `head` are taken.

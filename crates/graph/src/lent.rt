@@ -4,7 +4,7 @@ ghost use Rattle.graph.specs.Faults.{Sound};
 
 // Executions, one for each sub-job, and arcs by index in three lists: the place they start from, the place they lead to,
 // their hop delay.
-// Kept so: the scope asks for lent lists of numbers, not for one list of arcs.
+// Kept so: lent slices of numbers, not one list of arcs (docs/RULES.md, "Forms of the code").
 #[derive(Clone, Copy)]
 pub struct Graph<'a> {
     pub executions: &'a [u32],

@@ -16,7 +16,7 @@ pub(crate) fn withheld(criticals: &[u32], place: usize) -> u32
 }
 
 // The upper bounds of all sub-jobs, raised.
-// Kept so: a loop over `iter_mut().zip` has no name for `bounds`, of which the invariant speaks.
+// Kept so: tried `iter_mut().zip`: the invariant then has no name for `bounds`, of which it has to speak.
 pub(crate) fn raise(deadlines: &[u32], criticals: &[u32], bounds: &mut [u32])
     requires { Raising deadlines.now criticals.now bounds.old }
     ensures { Raised (limits deadlines.now criticals.now) (length deadlines.now) bounds.new }

@@ -17,8 +17,8 @@ fn behind(fit: &FitSet<'_>, i: usize, j: usize) -> bool
 }
 
 // Where the base sub-job stands among the sub-jobs of the base subset, which are given by their places.
-// Kept so: `max_by` and `max_by_key` of std give the last of equals, the rules' `choose` the first, and `max_by` would read the
-// best bound so far again at each place.
+// Kept so: `max_by` is no plainer: std gives the last of equals where the rules' `choose` gives the first, so it would take a
+// proof that no two sub-jobs of a set are equal.
 pub(crate) fn base_job(order: &[u32], bounds: &[u32], fit: &FitSet<'_>) -> usize
     requires { Choosing order.now bounds.now (length fit.now.set.releases.now) }
     ensures { Chosen order.now bounds.now fit.now.set.jobs.now fit.now.set.subtasks.now result }

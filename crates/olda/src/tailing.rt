@@ -4,7 +4,7 @@ ghost use Rattle.std.specs.Prelude.{◌+◌, ◌^◌, ◌<◌, ◌≡◌, map, s
 ghost use Rattle.olda.specs.Parts.{at, completions, Ordering, Tails, Greatest};
 
 // Writes the executions in release order.
-// Kept so: a loop over `iter_mut().zip` has no name for `ends`, of which the invariant speaks.
+// Kept so: by `iter_mut().zip` the invariant has no name for `ends`, as in `bounding::raise`.
 fn executions_in_order(order: &[u32], executions: &[u32], ends: &mut [u32])
     requires { Ordering executions.now order.now ends.old }
     ensures { take (length order.now) ends.new ≡ map (at executions.now) order.now }

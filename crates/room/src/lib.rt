@@ -54,9 +54,9 @@ fn assign_at(
 }
 
 // Every set in turn, whatever became of those before it.
-// Kept so: `lengths`, `results`, `numbers` and `places` are lent one by one, here and in `fitting` and `assign`, as the
-// scope has it for the public one. A struct that holds the lent lists needs one more clause per function, that they still
-// are the caller's.
+// Kept so: `lengths`, `results`, `numbers` and `places` are lent one by one, here and in `fitting` and `assign` (docs/RULES.md,
+// "Forms of the code"). A struct that holds the lent lists needs one more clause per function, that they still are the
+// caller's.
 fn assign_each(
     sets: &Set<'_>,
     lengths: &[u32],

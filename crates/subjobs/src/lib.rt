@@ -12,7 +12,7 @@ mod judging;
 use judging::OneLengthSet;
 
 // A set of sub-jobs: six lent lists of 32-bit numbers, one place per sub-job.
-// Kept so: the scope asks for a lent list per field, not for one list of sub-jobs.
+// Kept so: a lent slice for each field, not one list of sub-jobs (docs/RULES.md, "Forms of the code").
 #[derive(Clone, Copy)]
 pub struct Set<'a> {
     pub jobs: &'a [u32],
