@@ -6,6 +6,7 @@ ghost use Rattle.charoktan.specs.Records.{word, column, count, records, bytes, e
 use subjobs::Set;
 
 // The number whose four bytes begin at a byte.
+// Kept so: by `as_chunks` the byte would have to be a place among whole numbers, and the definition `word` goes by the byte.
 fn word(bytes: &[u8], at: usize) -> u32
     requires { at + 4 ≤ length bytes.now }
     ensures { result ≡ word bytes.now at }

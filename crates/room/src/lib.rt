@@ -42,6 +42,7 @@ fn assign_at(
         (results_at (subjobs_of sets.now) results.old start count) results.old) }
 {
     let end = start + count;
+    // Kept so: the door's fields and a table's records lend a part too, but of arrays: a method on sets would serve here alone.
     let set = Set {
         jobs: &sets.jobs[start..end],
         subtasks: &sets.subtasks[start..end],
