@@ -8,6 +8,19 @@ use crate::placing::place_all;
 use crate::sorting::in_order;
 use subjobs::{FitSet, Reason};
 
+// Writes a list over another of its length.
+// Kept so: `copy_from_slice`, and this loop where it is inlined beside the room that it reads, become a call of memcpy,
+// which the archive needs nowhere else.
+#[inline(never)]
+fn copy(from: &[u32], to: &mut [u32])
+    requires { length to.old ≡ length from.now }
+    ensures { to.new ≡ from.now }
+{
+    for (place, number) in to.iter_mut().enumerate() {
+        *number = from[place];
+    }
+}
+
 // The steps, with room made here for up to N sub-jobs: the raised bounds, the local deadlines, the places in release
 // order and the completions of their tails. The result list is written when all have their deadlines, and not before.
 // Kept so: arrays of which `count` places are used, since the library has no heap.
@@ -31,7 +44,7 @@ fn place_in<const N: usize>(fit: &FitSet<'_>, out: &mut [u32]) -> Result<(), Rea
         &mut ends[..count],
         &mut local,
     )?;
-    out.copy_from_slice(&local[..count]);
+    copy(&local[..count], out);
     Ok(())
 }
 

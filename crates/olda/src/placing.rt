@@ -9,11 +9,14 @@ use crate::tailing::{base_tail, completions};
 use subjobs::{FitSet, Reason};
 
 // Takes out what stands at k; the numbers behind it move down by one, and the last place is free.
+// Kept so: `rotate_left` calls memmove, which the archive must not need (include/charoktan.h).
 fn remove(a: &mut [u32], k: usize)
     requires { k < length a.old }
     ensures { take (length a.old - 1) a.new ≡ rest k a.old }
 {
-    a[k..].rotate_left(1);
+    for i in k..a.len() - 1 {
+        a[i] = a[i + 1];
+    }
 }
 
 // Takes an execution off the completions of tails that the sub-job was in.

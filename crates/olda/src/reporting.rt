@@ -6,6 +6,9 @@ ghost use Rattle.olda.specs.Parts.{at, limits, reported, Tightest};
 use crate::Report;
 use crate::bounding::{difference, withheld};
 
+// Slacks are compared raised by this, so that none is negative: no sub-job reaches so far.
+const FAR: u64 = 8_589_934_592;
+
 // The local deadlines of an accepted set, beside the deadlines and critical times of its sub-jobs.
 #[derive(Clone, Copy)]
 pub(crate) struct Accepted<'a> {
@@ -34,11 +37,20 @@ impl<'a> Accepted<'a> {
         difference(self.deadlines[i], self.reach(i))
     }
 
+    // The slack, raised so that it is not negative.
+    fn raised_slack(&self, i: usize) -> u64
+        requires { i < length self.now.local.now }
+        ensures { result + ((limits self.now.deadlines.now self.now.criticals.now).withheld i + at self.now.local.now i)
+            ≡ at self.now.deadlines.now i + 8589934592 }
+    {
+        u64::from(self.deadlines[i]) + FAR - self.reach(i)
+    }
+
     // The smallest place of the least slack, none of an empty set.
     fn tightest(&self) -> Option<usize>
         ensures { Tightest self.now.deadlines.now self.now.criticals.now self.now.local.now result }
     {
-        (0..self.local.len()).min_by_key(|i| self.slack(*i))
+        (0..self.local.len()).min_by_key(|i| self.raised_slack(*i))
     }
 
     // The report of the set.

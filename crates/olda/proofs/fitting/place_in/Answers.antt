@@ -16,4 +16,4 @@ returns-in_err-place_all g c =
 pub returns : goal.returns
 returns g c =
     fit_passed c.args.fit.now.fit g.row.N c.requires.room.0 c.in_order.ensures (search rules) c.raise.ensures c.place_all.ensures c.in_ok-place_all.was
-    c.copy_from_slice.ensures.after
+    c.copy.ensures

@@ -1,14 +1,18 @@
--- `placing::remove` meets its contract: turned by one, the part from k on ends with what stood at k.
-use Rattle.std.proofs.Common.{arith}
-use Rattle.std.proofs.Math.Seq.{take_at}
-use Rattle.std.proofs.lemmas.List.Edits.{length-remove}
-use Rattle.std.proofs.lemmas.Slice.{put_mid-rotated}
-use Rattle.olda.specs.Parts.{rest}
+-- `placing::remove` meets its contract: without the gap at `i` the numbers stay as they were without `k`.
+use borrow.Author.Rules.{rules}
+use mathlib.Core.Path.{refl}
+use lib.ListN.{length, length-set}
+use Rattle.olda.proofs.Shifts.{gap_up, gap_last}
 use Rattle.olda.proofs.placing.remove.Goals as goal
+
+pub loop-i-init : goal.loop-i-init
+loop-i-init c =
+    (refl, search rules, refl)
+
+pub loop-i-preserved : goal.loop-i-preserved
+loop-i-preserved c =
+    (simp length-set (search rules), simp length-set (search rules), gap_up c.loop-i.a _ c.loop-i.i c.loop-i.invariant.2 (search rules))
 
 pub returns : goal.returns
 returns c =
-    let a = c.args.a.now in
-    let k = c.args.k in
-    rw (put_mid-rotated k _ a c.rotate_left.new.self 0 c.requires (omega arith) c.rotate_left.ensures.after)
-    (take_at (rest k a) _ _ (omega (arith, length-remove a k c.requires)))
+    gap_last c.loop-i.a _ c.loop-i.i c.loop-i.invariant.2 (length c.args.a.now) (search rules) (search rules) (search rules)
