@@ -24,7 +24,7 @@ use Rattle.checker.specs.Answers as checkers
 use Rattle.checker.specs.Answers.{Checks}
 use Rattle.checker.proofs.Reported as reported
 use Rattle.charoktan.specs.Records.{column, words, count, records, encoded, fitting, Within}
-use Rattle.charoktan.specs.Answers.{told, Small, checked, assigned, if_placed, assigned_bytes, AssignsSet, AssignsBytes, ChecksBytes}
+use Rattle.charoktan.specs.Answers.{told, Small, checked, assigned, if_placed, assigned_bytes, AssignsSet, AssignsBytes}
 use Rattle.charoktan.proofs.Coding.{length-column, length-encoded}
 
 -- The lengths that fit: 4 bytes of results for each record.
@@ -119,21 +119,16 @@ module _ (bs ds : List ℕ) where
         (rw (judged_many bs (eqb (length (words ds (count bs))) (size (records bs))) (eq-eqb _ _ (length-column ds 4 0 (count bs) ∙ sym (size-records bs))) h))
 
 -- What the checker answers on what the bytes hold is what the door is held to.
-module _
-    (bs ds : List ℕ) (n : ℕ) (s : Subjobs) (l : List ℕ) (r : Judgement) (W : Within bs ds n) (e : s ≡ records bs)
-    (z : l ≡ column ds 4 0 (length ds / 4)) (h : Checks s l r)
-  where
-    is_answer : checkers.answer (records bs) (words ds (count bs)) ≡ r
-    is_answer =
-        let k : length ds / 4 ≡ count bs = omega (arith, fit_length bs (length ds) W.fits) in
-        sym (h ∙ rw (e, z, k))
+pub checked_within :
+    (bs ds : List ℕ) (n : ℕ) (s : Subjobs)
+    → Within bs ds n
+    → s ≡ records bs
+    → told (checkers.answer s (words ds (length ds / 4))) ≡ checked bs ds
+checked_within bs ds n s W e =
+    let k : length ds / 4 ≡ count bs = omega (arith, fit_length bs (length ds) W.fits) in
+    rw (e, k) (sym (answered_check bs ds W.fits _ refl))
 
-    pub checked_within : ChecksBytes bs ds (told r)
-    checked_within = sym (answered_check bs ds W.fits r is_answer)
-
-    pub checked_small : Small r
-    checked_small = by_answer r is_answer
-      where
-        by_answer : (a : Judgement) → checkers.answer (records bs) (words ds (count bs)) ≡ a → Small a
-        by_answer (Ok u) q = tt
-        by_answer (Err w) q = omega (arith, reported.refused_within (records bs) (words ds (count bs)) w q)
+-- The place of what the checker refuses is small.
+pub checked_small : (s : Subjobs) (l : List ℕ) (a : Judgement) → checkers.answer s l ≡ a → Small a
+checked_small s l (Ok u) q = tt
+checked_small s l (Err w) q = omega (arith, reported.refused_within s l w q)

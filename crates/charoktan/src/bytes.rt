@@ -1,7 +1,7 @@
 // Numbers in the engine's bytes, 32 bits little-endian.
 ghost use Rattle.std.specs.Prelude.{◌+◌, ◌*◌, ◌/◌, ◌≤◌, ◌≡◌, ◌++◌, length, take, drop};
 ghost use Rattle.subjobs.specs.Sets.{subjobs_of};
-ghost use Rattle.charoktan.specs.Records.{word, column, count, records, bytes, encoded};
+ghost use Rattle.charoktan.specs.Records.{word, column, words, count, records, bytes, encoded};
 
 use subjobs::Set;
 
@@ -30,6 +30,17 @@ pub(crate) fn column<'a, const WIDTH: usize>(
         room[i] = word(record, at);
     }
     &room[..records.len()]
+}
+
+// The numbers of whole lists of 4 bytes.
+// Not inlined, nor is `put_all`: beside the room that the numbers lie in, these loops become calls of memcpy, which the
+// archive must not need.
+#[inline(never)]
+pub(crate) fn words<'a>(bytes: &[u8], room: &'a mut [u32]) -> &'a [u32]
+    requires { length bytes.now / 4 ≤ length room.old }
+    ensures { result.now ≡ words bytes.now (length bytes.now / 4) }
+{
+    column::<4>(bytes, 0, room)
 }
 
 // Room for the six fields of N records.
@@ -97,6 +108,7 @@ pub(crate) fn put(out: &mut [u8], at: usize, v: u32)
 // The bytes of all numbers.
 // Kept so: places are counted, here and in `assign_each` of the room, since of the slice behind `as_chunks_mut` std says
 // nothing, once it is written.
+#[inline(never)]
 pub(crate) fn put_all(values: &[u32], out: &mut [u8])
     requires { length out.old ≡ 4 * length values.now }
     ensures { out.new ≡ encoded values.now }

@@ -3,9 +3,10 @@
 // `charoktan_c` exports these functions to C and C++ under their names.
 #![tactic(auto)]
 
-ghost use Rattle.std.specs.Prelude.{◌*◌, ◌/◌, ◌%◌, ◌≡◌, length};
+ghost use Rattle.std.specs.Prelude.{◌*◌, ◌/◌, ◌%◌, ◌≤◌, ◌≡◌, length};
 ghost use Rattle.subjobs.specs.Sets.{subjobs_of};
-ghost use Rattle.charoktan.specs.Records.{fitting, fitting_graph, Within, GraphWithin};
+ghost use Rattle.checker.specs.Answers.{answer};
+ghost use Rattle.charoktan.specs.Records.{words, fitting, fitting_graph, Within, GraphWithin};
 ghost use Rattle.charoktan.specs.Answers.{told, Small, AssignsSet, AssignsBytes, ChecksBytes, FindsBytes};
 ghost use Rattle.charoktan.specs.Rooms.{room_bytes, RoomsBytes};
 
@@ -104,40 +105,36 @@ pub fn charoktan_assign(records: &[u8], deadlines: &mut [u8]) -> u32
     code(assign(records, deadlines))
 }
 
+// The checker of a set, with room lent for the proposed deadlines. Both sizes of rooms call it, as they call `assign_set`.
+fn check_set(set: &Set<'_>, deadlines: &[u8], proposed: &mut [u32]) -> u32
+    requires { length deadlines.now / 4 ≤ length proposed.old }
+    ensures { result ≡ told (answer (subjobs_of set.now) (words deadlines.now (length deadlines.now / 4))) }
+{
+    code(checker::check(set, bytes::column::<4>(deadlines, 0, proposed)))
+}
+
 // The checker on whole records, with room for N of them.
-fn check_within<const N: usize>(records: &[u8], deadlines: &[u8]) -> Result<(), Reason>
+fn check_within<const N: usize>(records: &[u8], deadlines: &[u8]) -> u32
     requires { Within records.now deadlines.now N }
-    ensures small { Small result }
-    ensures checks { ChecksBytes records.now deadlines.now (told result) }
+    ensures { ChecksBytes records.now deadlines.now result }
 {
     let mut fields = Fields::<N>::new();
     let mut proposed = [0; N];
-    checker::check(
-        &fields.read(records),
-        bytes::column::<4>(deadlines, 0, &mut proposed),
-    )
-}
-
-// The checker, or why it refuses.
-fn check(records: &[u8], deadlines: &[u8]) -> Result<(), Reason>
-    ensures small { Small result }
-    ensures checks { ChecksBytes records.now deadlines.now (told result) }
-{
-    if !fitting(records, deadlines.len()) {
-        return Err(Reason::Lengths);
-    }
-    match records.len() / 24 {
-        0..=8 => check_within::<8>(records, deadlines),
-        9..=128 => check_within::<128>(records, deadlines),
-        _ => Err(Reason::TooMany),
-    }
+    check_set(&fields.read(records), deadlines, &mut proposed)
 }
 
 // The checker: 0 if the proposed deadlines are accepted, or a refusal's number.
 pub fn charoktan_check(records: &[u8], deadlines: &[u8]) -> u32
     ensures { ChecksBytes records.now deadlines.now result }
 {
-    code(check(records, deadlines))
+    if !fitting(records, deadlines.len()) {
+        return code(Err(Reason::Lengths));
+    }
+    match records.len() / 24 {
+        0..=8 => check_within::<8>(records, deadlines),
+        9..=128 => check_within::<128>(records, deadlines),
+        _ => code(Err(Reason::TooMany)),
+    }
 }
 
 // Whether executions and arcs are whole, and the results have 4 bytes for each execution.
@@ -164,7 +161,7 @@ fn critical_within<const N: usize, const M: usize>(
     let mut local = [0; N];
     let local = &mut local[..executions.len() / 4];
     let graph = Graph {
-        executions: bytes::column::<4>(executions, 0, &mut times),
+        executions: bytes::words(executions, &mut times),
         befores: bytes::column::<12>(arcs, 0, &mut befores),
         afters: bytes::column::<12>(arcs, 4, &mut afters),
         hops: bytes::column::<12>(arcs, 8, &mut hops),
