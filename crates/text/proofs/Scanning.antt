@@ -1,15 +1,17 @@
 -- How the definitions of Reading.antt go on from one byte to the next.
-use Prim.Native.Nat.{ℕ, zero, suc, ◌+◌, ◌*◌, ◌-◌, ◌<◌, ◌≤◌}
+use Prim.Native.Nat.{ℕ, zero, suc, ◌+◌, ◌*◌, ◌-◌, ◌^◌, ◌<◌, ◌≤◌}
+use Rattle.std.specs.Prelude.{min}
 use mathlib.Core.Bool.{true, false, cond, ◌||◌, ◌&&◌, and-false, and-true}
 use mathlib.Core.List.{List, [], ◌∷◌, ◌++◌, append_assoc, append-nil}
 use mathlib.Core.Path.{◌≡◌, refl, sym, ap, ◌∙◌}
-use native.Mathlib.Nat.{sub-zero, add-zero, zero-add}
+use native.Mathlib.Nat.{sub-zero, add-zero, zero-add, pow-suc}
+use Rattle.std.proofs.Math.Nat.{pow-le-pow_right}
 use native.Mathlib.Numerals.{add-one}
 use native.Mathlib.Omega.{arith}
 use borrow.Author.Tests.{le-leb, lt-leb, le-ltb, leb-true, eq-eqb, ne_eqb, eqb-true, eqb-false}
 use lib.Dec.{ltb, leb, eqb}
 use lib.ListN.{length, get_or, take, drop, set, take-append-drop, length-set, drop_of_length-le}
-use lib.Seq.{length-take-le, take-suc-set, drop-set-lt, drop-drop, drop-cons, drop-length, get_or-drop}
+use lib.Seq.{length-take-le, get_or-take, take-take, take-suc-set, drop-set-lt, drop-drop, drop-cons, drop-length, get_or-drop}
 use Rattle.std.specs.List.{take_while, starts_with, prefix_len, between}
 use Rattle.std.specs.Char.{is_ascii_digit}
 use Rattle.std.proofs.Common.{Option, Some, None}
@@ -31,23 +33,18 @@ digit b e =
     let high = h.1 in
     (omega tests, omega tests)
 
--- A value only grows with every further digit.
-at_least : (v : ℕ) (ds : List ℕ) → v ≤ value_from v ds
-unfolding value_from
-at_least v [] = omega arith
-at_least v (d ∷ ds) = omega (arith, at_least (v * 10 + (d - 48)) ds)
+-- The value of i digits is below the i-th power of 10.
+pub value_below : (v b i : ℕ) → v < 10 ^ i → b ≤ 57 → v * 10 + (b - 48) < 10 ^ (i + 1)
+value_below v b i h d = rw add-one (omega (arith, pow-suc 10 i))
 
-module _ (ds : List ℕ) (v i : ℕ) (h : i < length ds) where
-  pub value_more : value_from v (drop i ds) ≡ value_from (v * 10 + (get_or ds i 0 - 48)) (drop (i + 1) ds)
-  unfolding value_from
-  value_more = rw (drop-cons ds i 0 h, add-one i)
+-- What stands at a place of the first 11 bytes.
+pub near_at : (text : List ℕ) (i b : ℕ) → i < 11 → b ≡ get_or text i 0 → get_or (take 11 text) i 0 ≡ b
+near_at text i b h e = get_or-take 11 text i 0 h ∙ sym e
 
-  pub value_grows : v * 10 + (get_or ds i 0 - 48) ≤ value_from v (drop i ds)
-  value_grows = rw value_more (at_least (v * 10 + (get_or ds i 0 - 48)) (drop (i + 1) ds))
-
-pub value_all : (ds : List ℕ) (v i : ℕ) → length ds ≤ i → value_from v (drop i ds) ≡ v
-unfolding value_from
-value_all ds v i h = rw (drop_of_length-le ds h)
+pub value_small : (v i : ℕ) → v < 10 ^ i → i < 11 → v < 10_000_000_000
+value_small v i h l =
+    let p : 10 ^ i ≤ 10 ^ 10 = pow-le-pow_right {n = 10} (omega arith) {i = i} {j = 10} (omega arith) in
+    omega (arith, p)
 
 -- The digits that a text begins with are what std's methods take.
 abbrev pub run : List ℕ → List ℕ
@@ -69,6 +66,49 @@ pub run_digits : (bs : List ℕ) → Every Digit (run bs)
 run_digits [] = tt
 run_digits (b ∷ bs) =
     test (ltb b 48 || ltb 57 b) (λ e. rw (no_digit b e) tt) (λ e. rw (run_more b bs e) (digit b e, run_digits bs))
+
+-- The first n bytes show how long the run is, up to n.
+run_near : (n : ℕ) (bs : List ℕ) → prefix_len is_ascii_digit (take n bs) ≡ min n (prefix_len is_ascii_digit bs)
+run_near zero bs = omega arith
+run_near (suc n) [] = omega arith
+run_near (suc n) (b ∷ bs) =
+    let ih = run_near n bs in
+    test (is_ascii_digit b) (λ t. rw t (omega arith)) (λ t. rw t (omega arith))
+
+-- What 11 bytes show of a run: all of it, or that it is of more than 10 digits.
+module _ {n : ℕ} (bs : List ℕ) (e : n ≡ prefix_len is_ascii_digit (take 11 bs)) where
+  pub run_within : n ≤ 10 → n ≡ prefix_len is_ascii_digit bs
+  run_within h = omega (arith, run_near 11 bs)
+
+  pub run_whole : n ≤ 10 → run (take 11 bs) ≡ run bs
+  run_whole h =
+      let m : prefix_len is_ascii_digit bs ≤ 11 = omega (arith, run_within h) in
+      ap (λ (j : ℕ). take j (take 11 bs)) (sym e ∙ run_within h) ∙ take-take (prefix_len is_ascii_digit bs) 11 bs m
+
+  pub run_short : (1 ≤ prefix_len is_ascii_digit bs) × (prefix_len is_ascii_digit bs ≤ 10) → (1 ≤ n) × (n ≤ 10)
+  run_short h = omega (arith, run_near 11 bs)
+
+-- The value of what is left of a run at a place of the text.
+module _ (text : List ℕ) (v i : ℕ) where
+  pub left_end : length text ≤ i → value_from v (run (drop i text)) ≡ v
+  unfolding value_from
+  left_end h = rw (drop_of_length-le text h) refl
+
+  module _ (h : i < length text) where
+    pub left_stop : is_ascii_digit (get_or text i 0) ≡ false → value_from v (run (drop i text)) ≡ v
+    unfolding value_from
+    left_stop e = rw (drop-cons text i 0 h, e) refl
+
+    pub left_more :
+        is_ascii_digit (get_or text i 0) ≡ true
+        → value_from v (run (drop i text)) ≡ value_from (v * 10 + (get_or text i 0 - 48)) (run (drop (i + 1) text))
+    unfolding value_from
+    left_more e =
+        let b = get_or text i 0 in
+        let w : run (drop i text) ≡ b ∷ run (drop (suc i) text) =
+        ap run (drop-cons text i 0 h) ∙ take_while-cons is_ascii_digit b (drop (suc i) text) ∙ rw e refl
+        in
+        rw (add-one i) (ap (value_from v) w)
 
 digits_run :
     (v n i : ℕ) (bs : List ℕ)
