@@ -62,7 +62,7 @@ module _ (L : Load) (K : Counters L) where
   idle_is = omega (arith, all_ticks L)
 
 module _ (w : Work) (e : Core) (R : RanOut w e) where
-  run_is : read_off (load_of w) e ≡ run_of (load_of w)
+  pub run_is : read_off (load_of w) e ≡ run_of (load_of w)
   unfolding run_of finish
   run_is =
       let L = load_of w in

@@ -17,7 +17,7 @@ use Rattle.graph.specs.Parts.{at, ask, Attained, AtMost, most, Values, Grown, Ra
 use Rattle.graph.proofs.Paths.{cost_most}
 
 -- What stands at a place after one was set: the new value at its own place, the old one elsewhere.
-set_cases :
+pub set_cases :
     (d : List ℕ) (b v i : ℕ) (X : ℕ → Type 0)
     → b < length d
     → (i ≡ b → X v)
@@ -29,7 +29,7 @@ set_cases d b v i X h new old =
     (λ e. rw (get_or-set_other d b i v 0 (eqb_no i b e)) old)
 
 -- No number is above b after one was set that is not.
-at_most_set : {b : ℕ} (d : List ℕ) (k v : ℕ) → k < length d → v ≤ b → AtMost b d → AtMost b (set d k v)
+pub at_most_set : {b : ℕ} (d : List ℕ) (k v : ℕ) → k < length d → v ≤ b → AtMost b d → AtMost b (set d k v)
 at_most_set {b} d k v h le m i = set_cases d k v i (λ (w : ℕ). w ≤ b) h (λ e. le) (m i)
 
 pub at_most_zeros : (n b : ℕ) → AtMost b (replicate n 0)
@@ -58,7 +58,7 @@ module _ (g : Graph) where
       }
 
   module _ {n : ℕ} (s : Sound g n) {a : ℕ} (h : a < arcs g) where
-    attained_set : (d : List ℕ) → size g ≤ length d → Attained g d → Attained g (set d (before g a) (ask g d a))
+    pub attained_set : (d : List ℕ) → size g ≤ length d → Attained g d → Attained g (set d (before g a) (ask g d a))
     attained_set d room A i b =
         let m = s.named a h in
         set_cases d (before g a) (ask g d a) i (λ (v : ℕ). (p : List ℕ) × Path g i p × (weight (cost g) p ≡ v)) (omega (arith, m.0))

@@ -60,7 +60,7 @@ pub(crate) fn settle(sound: &SoundGraph, found: &mut [u64; 128]) -> Result<(), R
     ensures { Settles (graph_of sound.now.graph) found.new result }
 {
     let n = sound.graph.executions.len();
-    for turn in 0..=n {
+    for turn in 0..n + 1 {
         if !round(sound, found, turn) {
             return Ok(());
         }

@@ -17,16 +17,15 @@ guess-requires c =
 next : (c : Joined-turn-n) → Turning (graph_of c.args.sound.now.graph) c.if-turn-n.found (c.loop-turn.turn + 1)
 next c =
     let R = rw c.if-not-round.false at c.round.ensures in
-    let on = c.loop-turn-test.true in
     elim c.if-turn-n.branch [
-      | then-turn-n w ↦ rw w.found-is (turning_on _ c.args.sound.now.sound c.loop-turn.invariant on R w.guess.ensures)
-      | else-turn-n w ↦ rw w.found-is (turning_on _ c.args.sound.now.sound c.loop-turn.invariant on R (grown_none _ _ _))
+      | then-turn-n w ↦ rw w.found-is (turning_on _ c.args.sound.now.sound c.loop-turn.invariant (omega (arith, c.loop-turn-test.true)) R w.guess.ensures)
+      | else-turn-n w ↦ rw w.found-is (turning_on _ c.args.sound.now.sound c.loop-turn.invariant (omega (arith, c.loop-turn-test.true)) R (grown_none _ _ _))
     ]
 
 pub loop-turn-preserved : goal.loop-turn-preserved
 loop-turn-preserved c = next (goal.at.loop-turn-preserved c).Joined-turn-n
 
-pub returns-after-turn-n : goal.returns-after-turn-n
-returns-after-turn-n c =
-    let T = next (goal.at.returns-after-turn-n c).Joined-turn-n in
-    record { room = T.values.room; attained = T.values.attained; settled = tt; cycle = (refl, T.cycle (omega arith)) }
+pub returns : goal.returns
+returns c =
+    let T = c.loop-turn.invariant in
+    record { room = T.values.room; attained = T.values.attained; settled = tt; cycle = (refl, T.cycle (omega (arith, c.loop-turn-test.false))) }
