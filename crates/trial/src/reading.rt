@@ -1,10 +1,35 @@
 // Numbers and lists of numbers in decimal text. Where the text is not as it should be, or has ended,
 // numbers are 0 and lists are empty: a case of kind 0 ends the program.
-ghost use Rattle.std.specs.Prelude.{◌≤◌, IfOk, vec_len};
+ghost use Rattle.std.specs.Prelude.{◌≤◌, IfOk, length, vec_len};
 
 use std::alloc::{AllocError, Global};
+use std::io::{self, Read};
 use std::slice::Iter;
 use subjobs::Set;
+
+// Reads standard input to its end or until the room is full, and answers how many bytes came; or the error of a read
+// that failed.
+// Kept so: a loop of `read` into one room, and no `read_to_end`. One read takes a whole message, and std's first ones ask for
+// 512 bytes: of a longer message the rest is lost, where standard input keeps messages apart. It also reads on where a read
+// was interrupted, and there the program has to end with that error. And its `Vec` doubles: two mebibytes took 2,296 KiB more.
+pub(crate) fn fill(rt: &HostRuntime, room: &mut [u8]) -> io::Result<usize>
+    ensures { IfOk result (λ n. n ≤ length room.new) }
+{
+    let mut input = rt.stdin();
+    let mut n = 0;
+    while n < room.len() {
+        let more = input.read(&mut room[n..])?;
+        if more == 0 {
+            return Ok(n);
+        }
+        n += more;
+    }
+    Ok(n)
+}
+
+// The least room that a list is given, in numbers. Pieces of up to 1,032 bytes glibc keeps apart once they are freed. With none
+// so small, what a case frees is one piece again, and the heap stays at the 132 KiB that it begins with, on every text.
+const LEAST: usize = 300;
 
 // A text that is read from front to back, and the allocator of its lists.
 #[derive(Drop)]
@@ -33,6 +58,8 @@ impl<'a> Reader<'a> {
     }
 
     // The list that stands next, its length and then its numbers. One longer than `limit` ends the text.
+    // Kept so: no `collect`, which asks for as many numbers as come: lists of many lengths cut up the heap, which then grows by
+    // 136 KiB.
     pub(crate) fn list(&mut self, limit: usize) -> Result<Vec<u32>, AllocError>
         ensures { IfOk result (λ list. vec_len list ≤ limit) }
     {
@@ -41,10 +68,11 @@ impl<'a> Reader<'a> {
             self.end();
             return Ok(Vec::new(self.alloc));
         }
-        let alloc = self.alloc;
-        (0..count)
-            .map(|_| u32::try_from(self.number()).unwrap_or(u32::MAX))
-            .collect(alloc)
+        let mut list = Vec::with_capacity(self.alloc, limit.max(LEAST))?;
+        for _ in 0..count {
+            list.push(u32::try_from(self.number()).unwrap_or(u32::MAX))?;
+        }
+        Ok(list)
     }
 
     // The text that stands next, its length before it and one byte behind it. One that is cut off ends the text.
