@@ -18,11 +18,10 @@ use Rattle.std.proofs.Common.{Option, Some, None}
 use Rattle.std.proofs.lemmas.List.Sums.{take_while-cons}
 use Rattle.std.proofs.lemmas.List.Folds.{length-prefix_len}
 use Rattle.std.proofs.lemmas.Slice.{between_to_end}
-use Rattle.lists.specs.Places.{Every}
 use Rattle.lists.proofs.Cases.{test, clash, both, tests, neither}
 use Rattle.lists.proofs.Count.{left_none}
 use Rattle.text.proofs.Stored.{last_left}
-use Rattle.text.specs.Format.{Digit, value_from}
+use Rattle.text.specs.Format.{value_from}
 use Rattle.text.specs.Reading.{byte_at, digits, number, number_at, followed, field_at, cell_at, line_end, Fields, on_cell, record_at, starts, Recorded}
 
 -- A byte that is a digit.
@@ -61,11 +60,6 @@ no_digit b e =
 
 run_more : (b : ℕ) (bs : List ℕ) → (ltb b 48 || ltb 57 b) ≡ false → run (b ∷ bs) ≡ b ∷ run bs
 run_more b bs e = take_while-cons is_ascii_digit b bs ∙ rw (is_digit b e)
-
-pub run_digits : (bs : List ℕ) → Every Digit (run bs)
-run_digits [] = tt
-run_digits (b ∷ bs) =
-    test (ltb b 48 || ltb 57 b) (λ e. rw (no_digit b e) tt) (λ e. rw (run_more b bs e) (digit b e, run_digits bs))
 
 -- The first n bytes show how long the run is, up to n.
 run_near : (n : ℕ) (bs : List ℕ) → prefix_len is_ascii_digit (take n bs) ≡ min n (prefix_len is_ascii_digit bs)

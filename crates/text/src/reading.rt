@@ -9,7 +9,9 @@ ghost use Rattle.text.specs.Reading.{number_at, followed, field_at, line_end, af
 
 // The value of the digits that a text begins with, up to 11 of them, and how many they are.
 // Kept so: one loop for both, and over a count that is known, so that the compiler lays each turn out: `take_while` and
-// `count`, with a second loop for the value, took twice the time of a record, one loop over the bytes a third more.
+// `count`, with a second loop for the value, took twice the time of a record, one loop over the bytes a third more. Not
+// inlined: with it the readers above are built so that a table's records are cleared four times.
+#[inline(never)]
 fn leading_digits(text: &[u8]) -> (u64, usize)
     ensures value { result.0 ≡ value (take_while is_ascii_digit (take 11 text.now)) }
     ensures count { result.1 ≡ prefix_len is_ascii_digit (take 11 text.now) }

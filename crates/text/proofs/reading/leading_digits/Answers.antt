@@ -9,6 +9,7 @@ use Rattle.std.specs.Char.{is_ascii_digit}
 use Rattle.std.proofs.lemmas.Grind.{common_steps}
 use Rattle.text.proofs.Scanning.{left_end, left_stop, left_more, near_at, value_below, value_small}
 use Rattle.text.proofs.reading.leading_digits.Goals as goal
+use Rattle.text.proofs.reading.leading_digits.Goals.{Then-not-is_ascii_digit}
 
 pub returns-in_default-clause-value : goal.returns-in_default-clause-value
 returns-in_default-clause-value c =
@@ -16,28 +17,23 @@ returns-in_default-clause-value c =
     let past : length (take 11 c.args.text.now) ≤ l.count = grind (arith, common_steps) in
     sym (left_end (take 11 c.args.text.now) l.value l.count past) ∙ l.invariant.2
 
+-- The byte that ends the run.
+stops : (c : Then-not-is_ascii_digit) → is_ascii_digit (get_or (take 11 c.args.text.now) c.loop-count.count 0) ≡ false
+stops c =
+    let i = c.loop-count.count in
+    let at : c.in-Some.byte.now ≡ get_or c.args.text.now i 0 = grind (arith, common_steps) in
+    rw (near_at c.args.text.now i c.in-Some.byte.now c.loop-count-test.true at)
+    (sym c.is_ascii_digit.ensures.value ∙ c.if-not-is_ascii_digit.true)
+
 pub returns-then-not-is_ascii_digit-clause-value : goal.returns-then-not-is_ascii_digit-clause-value
 returns-then-not-is_ascii_digit-clause-value c =
     let l = c.loop-count in
-    let near = take 11 c.args.text.now in
-    let inside : l.count < length near = grind (arith, common_steps) in
-    let b = c.in-Some.byte.now in
-    let at : b ≡ get_or c.args.text.now l.count 0 = grind (arith, common_steps) in
-    let stops : is_ascii_digit (get_or near l.count 0) ≡ false =
-    rw (near_at c.args.text.now l.count b c.loop-count-test.true at) (sym c.is_ascii_digit.ensures.value ∙ c.if-not-is_ascii_digit.true)
-    in
-    sym (left_stop near l.value l.count inside stops) ∙ l.invariant.2
+    let inside : l.count < length (take 11 c.args.text.now) = grind (arith, common_steps) in
+    sym (left_stop (take 11 c.args.text.now) l.value l.count inside (stops c)) ∙ l.invariant.2
 
 pub returns-then-not-is_ascii_digit-clause-count : goal.returns-then-not-is_ascii_digit-clause-count
 returns-then-not-is_ascii_digit-clause-count c =
-    let l = c.loop-count in
-    let near = take 11 c.args.text.now in
-    let inside : l.count < length near = grind (arith, common_steps) in
-    let b = c.in-Some.byte.now in
-    let at : b ≡ get_or c.args.text.now l.count 0 = grind (arith, common_steps) in
-    let stops : is_ascii_digit (get_or near l.count 0) ≡ false =
-    rw (near_at c.args.text.now l.count b c.loop-count-test.true at) (sym c.is_ascii_digit.ensures.value ∙ c.if-not-is_ascii_digit.true)
-    in
+    let no = stops c in
     grind (arith, common_steps)
 
 pub overflow_mul-value : goal.overflow_mul-value
