@@ -8,14 +8,14 @@ ghost use Rattle.graph.specs.Parts.{at, AtMost, turned, most, Values, Grown};
 use crate::lent::SoundGraph;
 use crate::rounds::raise;
 
-// The places that wait, in the order in which they came. Those before `head` are taken.
-// Kept so: the library's rules want fixed memory and no heap, so the queue is an array and two indices.
+// The places that came to wait, in the order in which they came.
+// Kept so: the library's rules want fixed memory and no heap, so the queue is an array and the count of those that came.
+// Whose turn it is stands outside, in `peel`: in here it is stored and read again at every turn.
 #[derive(Drop)]
 struct Queue {
     places: [u32; 128],
-    head: usize,
     tail: usize,
-    ghost inside: { (head ≤ 128) × (tail ≤ 128) },
+    ghost inside: { tail ≤ 128 },
     ghost below: { AtMost 127 places },
 }
 
@@ -23,7 +23,6 @@ impl Queue {
     // Puts a place behind the others, if there is room.
     fn push(&mut self, place: usize)
         requires { place < 128 }
-        ensures { self.new.head ≡ self.old.head }
     {
         if self.tail < self.places.len() {
             self.places[self.tail] = place as u32;
@@ -31,13 +30,12 @@ impl Queue {
         }
     }
 
-    // Takes the place in front.
-    fn pop(&mut self) -> Option<usize>
-        ensures { IfSome result (λ place. (place < 128) × (self.old.head < self.new.head)) }
+    // The place whose turn it is, if so many came.
+    fn at(&self, turn: usize) -> Option<usize>
+        ensures { IfSome result (λ place. (place < 128) × (turn < 128)) }
     {
         let came = &self.places[..self.tail];
-        let place = *came.get(self.head)?;
-        self.head += 1;
+        let place = *came.get(turn)?;
         Some(place as usize)
     }
 }
@@ -75,8 +73,7 @@ impl<'a> Links<'a> {
     // Takes the arcs that lead to a place. One that they leave waits when the last arc that leaves it is taken.
     fn take(&self, place: usize, found: &mut [u64; 128], left: &mut [u32; 128], queue: &mut Queue)
         requires { (place < 128) × Values (graph_of self.now.sound.graph) 299 found.old }
-        ensures grown { Grown (graph_of self.now.sound.graph) turned found.old found.new }
-        ensures head { queue.new.head ≡ queue.old.head }
+        ensures { Grown (graph_of self.now.sound.graph) turned found.old found.new }
     {
         let graph = self.sound.graph;
         let mut link = self.first[place] as usize;
@@ -115,7 +112,9 @@ fn peel(links: &Links, found: &mut [u64; 128], left: &mut [u32; 128], queue: &mu
     requires { Values (graph_of links.now.sound.graph) 298 found.old }
     ensures { Grown (graph_of links.now.sound.graph) most found.old found.new }
 {
-    while let Some(place) = queue.pop() {
+    let mut turn = 0;
+    while let Some(place) = queue.at(turn) {
+        turn += 1;
         links.take(place, found, left, queue);
     }
 }
@@ -135,7 +134,6 @@ pub(crate) fn guess(sound: &SoundGraph, found: &mut [u64; 128])
     links.link(&mut left);
     let mut queue = Queue {
         places: [0; 128],
-        head: 0,
         tail: 0,
     };
     ends(&left[..sound.graph.executions.len()], &mut queue);

@@ -10,4 +10,4 @@ pub link-requires : goal.link-requires
 link-requires c = (at_most_zeros 128 0, at_most_zeros 128 0)
 
 pub invariant_of-queue : goal.invariant_of-queue
-invariant_of-queue c = record { inside = (omega arith, omega arith); below = at_most_zeros 128 127 }
+invariant_of-queue c = record { inside = omega arith; below = at_most_zeros 128 127 }

@@ -1,10 +1,8 @@
 -- `Links::take` meets its contract: each link leads to an earlier arc.
-use Rattle.std.proofs.Common.{arith, ◌<◌, ◌≤◌, ◌-◌, length, ap, ◌∙◌}
-use Rattle.graph.specs.declared.guessing.Queue.{Queue}
+use Rattle.std.proofs.Common.{arith, ◌<◌, ◌≤◌, ◌-◌, length}
 use Rattle.graph.specs.Graphs.{graph_of, size, arcs}
 use Rattle.graph.proofs.Growing.{grown_on, grown_values, raised_grown}
 use Rattle.graph.proofs.guessing.Links.take.Goals as goal
-use Rattle.graph.proofs.guessing.Links.take.Goals.{then-last, else-last}
 
 pub raise-requires : goal.raise-requires
 raise-requires c =
@@ -19,6 +17,5 @@ loop-link-preserved c =
     let falls = S.falls (L.link - 1) in
     record {
       inside = omega arith;
-      head = elim c.if-last.branch [ then-last w ↦ ap (λ (q : Queue). q.head) w.queue-is ∙ w.push.ensures ∙ L.invariant.head | else-last w ↦ ap (λ (q : Queue). q.head) w.queue-is ∙ L.invariant.head ];
       grown = grown_on _ _ (omega arith) L.invariant.grown (raised_grown _ S.sound.sound h room c.raise.ensures);
     }
